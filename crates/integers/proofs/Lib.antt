@@ -1,0 +1,12 @@
+pub mod Tests
+pub mod Ring
+pub mod Polynomial
+pub mod Identity
+pub mod Sign
+pub mod Infer
+pub mod Table
+pub mod Order
+pub mod Size
+pub mod Claims
+pub mod Compare
+pub mod Range

@@ -1,0 +1,27 @@
+-- `antipodal` meets its contract: the dot product is worked out only for parallel points. Assumes nothing.
+use mathlib.Core.Path.{sym, _∙_}
+use borrow.Author.Needs.{needs, sfits-of}
+use mir.Syntax.{w64}
+use Rattle.integers.proofs.Compare.{negative-test}
+use Rattle.sphere.specs.Direction.{isAntipodal}
+use Rattle.sphere.proofs.direction.antipodal.Statement.{statement}
+use Rattle.sphere.proofs.direction.antipodal.Tie as tie
+
+parallel-requires : tie.Need-parallel-requires
+parallel-requires c κs = search needs
+
+dot-requires : tie.Need-dot-requires
+dot-requires c κs = search needs
+
+returns : tie.Need-returns
+unfolding isAntipodal
+returns c =
+    rw (sym (c .before .before .parallel .ensures) ∙ c .before .if1 .taken, ← c .dot .ensures)
+    (negative-test w64 (c .dot .result) (sfits-of (c .dot .ok)))
+
+returns-2 : tie.Need-returns-2
+unfolding isAntipodal
+returns-2 c = rw (sym (c .before .parallel .ensures) ∙ c .if1 .left)
+
+pub antipodal-spec : {M : Type 1} → statement M
+antipodal-spec = tie.close (tie.spec parallel-requires dot-requires returns returns-2)

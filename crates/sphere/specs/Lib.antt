@@ -1,0 +1,6 @@
+pub mod Point
+pub mod Orientation
+pub mod Direction
+pub mod Crossing
+pub mod OnEdge
+pub mod Claims

@@ -1,0 +1,68 @@
+// The orientation of three points, and the products of two.
+// Here, in order: orientation, cross, dot. Document 01, 'Points, sides, outlines'. The points are within the grid, so
+// that no product or sum wraps. Assumes nothing.
+ghost use mathlib.Core.Path.{_≡_};
+ghost use Rattle.sphere.specs.Point.{coarse, Within};
+ghost use Rattle.sphere.specs.Orientation.{orientationOf, crossOf, dotOf};
+use crate::point::Point;
+
+// Document 01: the turn, with its products as written there.
+pub fn orientation(a: Point, b: Point, c: Point) -> i64
+    requires { ⌜ Within coarse a × Within coarse b × Within coarse c ⌝ }
+    ensures { λ r. ⌜ r ≡ orientationOf a b c ⌝ }
+{
+    let Point {
+        x: ax,
+        y: ay,
+        z: az,
+    } = a;
+    let Point {
+        x: bx,
+        y: by,
+        z: bz,
+    } = b;
+    let Point {
+        x: cx,
+        y: cy,
+        z: cz,
+    } = c;
+    ax * by * cz + ay * bz * cx + az * bx * cy - ax * bz * cy - ay * bx * cz - az * by * cx
+}
+
+pub fn cross(a: Point, b: Point) -> Point
+    requires { ⌜ Within coarse a × Within coarse b ⌝ }
+    ensures { λ r. ⌜ r ≡ crossOf a b ⌝ }
+{
+    let Point {
+        x: ax,
+        y: ay,
+        z: az,
+    } = a;
+    let Point {
+        x: bx,
+        y: by,
+        z: bz,
+    } = b;
+    Point {
+        x: ay * bz - az * by,
+        y: az * bx - ax * bz,
+        z: ax * by - ay * bx,
+    }
+}
+
+pub fn dot(a: Point, b: Point) -> i64
+    requires { ⌜ Within coarse a × Within coarse b ⌝ }
+    ensures { λ r. ⌜ r ≡ dotOf a b ⌝ }
+{
+    let Point {
+        x: ax,
+        y: ay,
+        z: az,
+    } = a;
+    let Point {
+        x: bx,
+        y: by,
+        z: bz,
+    } = b;
+    ax * bx + ay * by + az * bz
+}
