@@ -1,14 +1,49 @@
-# make test: the gate. make fmt: the layout that the gate asks for.
+# make run        the program, built and run on document 01's octant: four lines
+# make test       the gate: the layout, rt ci, the host tests; ends with rt's 'N passed, 0 failed'
+# make lib        target/staticlib/libspargolutta.a, to link with include/spargolutta.h
+# make bin        target/bin/zone_judge, the program
+# make install    header, archive and pkg-config file under PREFIX (no spaces in it)
+# make host-test  the host tests alone
+# make bench      the library and the program against Rust and C, as ratios
+# make fmt        the layout that the gate asks for
 SHELL := /bin/bash
 .SHELLFLAGS := -o pipefail -ec
-.PHONY: test fmt
+.PHONY: run test lib bin install host-test bench fmt
+
+PREFIX ?= /usr/local
+DESTDIR ?=
+INSTALLED := $(DESTDIR)$(abspath $(PREFIX))
+CARGO := CARGO_TARGET_DIR=$(CURDIR)/target/cargo cargo
+
+run: bin
+	@cd crates/zone_judge/data && $(CURDIR)/target/bin/zone_judge < ../stdin
 
 # rt's last line, 'N passed, 0 failed', is held back until everything else has passed too.
 test:
 	@log=$$(mktemp); trap 'rm -f "$$log"' EXIT; \
 	rt fmt --check; \
 	rt ci | tee "$$log" | sed '$$d' || { tail -n 1 "$$log"; exit 1; }; \
+	$(MAKE) --no-print-directory host-test; \
 	tail -n 1 "$$log"
+
+lib:
+	@rt staticlib spargolutta >&2
+
+bin:
+	@rt check zone_judge >&2
+
+install: lib
+	@install -d $(INSTALLED)/include $(INSTALLED)/lib/pkgconfig
+	@install -m 644 include/spargolutta.h $(INSTALLED)/include/
+	@install -m 644 target/staticlib/libspargolutta.a $(INSTALLED)/lib/
+	@sed 's|@PREFIX@|$(abspath $(PREFIX))|' spargolutta.pc.in > $(INSTALLED)/lib/pkgconfig/spargolutta.pc
+
+host-test: lib bin
+	@$(CARGO) test --release --offline --quiet --manifest-path tests/Cargo.toml -- --nocapture \
+	| sed -e 's/^\.*//' -e '/^$$/d'
+
+bench: lib bin
+	@$(CARGO) run --release --offline --quiet --manifest-path bench/Cargo.toml
 
 fmt:
 	rt fmt

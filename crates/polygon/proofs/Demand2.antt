@@ -19,8 +19,9 @@ use Rattle.polygon.specs.Answer.{numberOf, placeOf, countOf}
 use Rattle.polygon.specs.Checks.{acceptCheck, judgeCheck}
 use Rattle.polygon.specs.Verdict.{isHeldBy, boundaryOf, crossingsOf, verdictBy, verdictOf}
 use Rattle.polygon.specs.Claims.{Holds, Judged, Demand2}
-use Rattle.polygon.proofs.Laws.First.{Lowest, first-none, first-found}
-use Rattle.polygon.proofs.Laws.Accepted.{Accepted, accepted, then-first}
+use Rattle.polygon.proofs.Laws.First.{Lowest, first-found}
+use Rattle.polygon.proofs.Laws.Search.{first-none}
+use Rattle.polygon.proofs.Laws.Checks.{Reference, reference-accepted, then-passed}
 use Rattle.polygon.proofs.Demand3.{answer-judged}
 
 -- ---- a verdict by parity
@@ -37,7 +38,7 @@ module _ (c : ℕ) where
   counted true = refl
   counted false = refl
 
-module _ (limit : ℕ) (vs : List ℤ) (X P : Point) (a : Accepted limit vs X) where
+module _ (limit : ℕ) (vs : List ℤ) (X P : Point) (a : Reference limit vs X) where
   -- the test by signs decides the fractions, as X is off the edge's great circle
   decided : (i : ℕ) → i < vertexCount vs → Decided (startOf vs i) (endOf vs i) P
   decided i l = on-edge-decided (startOf vs i) (endOf vs i) P
@@ -86,7 +87,7 @@ module _ (limit : ℕ) (vs : List ℤ) (X P : Point) (a : Accepted limit vs X) w
       even = eqb (c % 2) 0
 
       free : (i : ℕ) → Holds vs P i → ⊥
-      free i h = test-fails i (first-none (isHeldBy vs P) 0 (vertexCount vs) none i zero-le (omega (arith, h .0))) h
+      free i h = test-fails i (first-none (isHeldBy vs P) 0 (vertexCount vs) i none zero-le (omega (arith, h .0))) h
 
   judged : (f : Found) → boundaryOf vs P ≡ f → Judged vs X P (verdictBy f (crossingsOf vs X P))
   unfolding boundaryOf
@@ -97,4 +98,5 @@ pub demand-2 : Demand2
 unfolding verdictOf judgeCheck
 demand-2 limit vs X P h =
     subst (λ answer. Judged vs X P answer) (sym (answer-judged limit vs X P h))
-    (judged limit vs X P (accepted limit vs X (then-first (acceptCheck limit vs X) _ h)) (boundaryOf vs P) refl)
+    (judged limit vs X P (reference-accepted limit vs X (then-passed (acceptCheck limit vs X) _ h .0))
+    (boundaryOf vs P) refl)

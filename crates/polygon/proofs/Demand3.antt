@@ -10,10 +10,9 @@ use native.Mathlib.Omega.{arith}
 use lib.Dec.{eqb}
 use lib.IntN.{ℤ}
 use Rattle.sphere.specs.declared.point.Point.{Point}
-use Rattle.sphere.specs.Point.{Within, isOffGrid}
+use Rattle.sphere.specs.Point.{Within}
 use Rattle.sphere.specs.Direction.{isAntipodal}
 use Rattle.sphere.proofs.Parity.{_⊕_}
-use Rattle.sphere.proofs.Laws.Grid.{off-grid→within}
 use Rattle.sphere.proofs.Laws.OnEdge.{off→not-on}
 use Rattle.polygon.specs.declared.answer.Found.{Found}
 use Rattle.polygon.specs.declared.answer.Found.the-variants.{Nothing, At}
@@ -24,9 +23,10 @@ use Rattle.polygon.specs.Answer.{numberOf, placeOf}
 use Rattle.polygon.specs.Checks.{acceptCheck, queryCheck, farCheck, judgeCheck}
 use Rattle.polygon.specs.Verdict.{isHeldBy, isCrossed, boundaryOf, crossingsOf, verdictBy, verdictOf, answerOf}
 use Rattle.polygon.specs.Claims.{exchanged, SameVerdict, Demand3}
-use Rattle.polygon.proofs.Laws.First.{first-none, none-first}
+use Rattle.polygon.proofs.Laws.Search.{first-none}
+use Rattle.polygon.proofs.Laws.First.{none-first}
 use Rattle.polygon.proofs.Laws.Count.{count-odd}
-use Rattle.polygon.proofs.Laws.Accepted.{Accepted, accepted, reference→query, fails-if}
+use Rattle.polygon.proofs.Laws.Checks.{Reference, reference-accepted, reference→query, query-passed}
 use Rattle.polygon.proofs.Potential.{arc, Clears, arcs}
 
 -- ---- the number and the place of a verdict
@@ -70,7 +70,7 @@ module _ (limit : ℕ) (vs : List ℤ) (X P : Point) where
 
 -- ---- a point that is accepted as reference
 module _ (limit : ℕ) (vs : List ℤ) where
-  accepted-clears : (Y : Point) → Accepted limit vs Y → Clears vs Y
+  accepted-clears : (Y : Point) → Reference limit vs Y → Clears vs Y
   accepted-clears Y a i from below =
       let l : i < vertexCount vs = omega arith in off→not-on (startOf vs i) (endOf vs i) Y (a .off-circle i l)
 
@@ -95,7 +95,8 @@ module _ (limit : ℕ) (vs : List ℤ) where
       go true h = absurd (larger n 18 small (refused h))
       go false h = record {
         near = h;
-        parity = sym (ap (λ f. numberBy f (arc vs X Y)) (clears-none Y (accepted-clears Y (accepted limit vs Y y))))
+        parity = sym (ap (λ f. numberBy f (arc vs X Y))
+            (clears-none Y (accepted-clears Y (reference-accepted limit vs Y y))))
             ∙ sym (number-judged limit vs X Y (judge-passed limit vs X Y x (reference→query limit vs Y y) h)) ∙ e;
       }
 
@@ -120,14 +121,14 @@ module _ (limit : ℕ) (vs : List ℤ) (X Y P : Point) (x : acceptCheck limit vs
     (y : acceptCheck limit vs Y ≡ Passed)
     (p : queryCheck limit P ≡ Passed) (nearXP : isAntipodal X P ≡ false) (nearYP : isAntipodal Y P ≡ false) where
   grid : Within limit P
-  unfolding queryCheck
-  grid = off-grid→within limit P (fails-if 17 (isOffGrid limit P) p)
+  grid = query-passed p
 
   sum : isAntipodal X Y ≡ false → boundaryOf vs P ≡ Nothing → arc vs Y P ≡ (arc vs X Y ⊕ arc vs X P)
   unfolding boundaryOf
   sum nearXY h =
-      arcs limit vs X Y P (accepted limit vs X x) (accepted limit vs Y y) grid nearXY nearXP nearYP
-      (accepted-clears limit vs Y (accepted limit vs Y y)) (first-none (isHeldBy vs P) 0 (vertexCount vs) h)
+      arcs limit vs X Y P (reference-accepted limit vs X x) (reference-accepted limit vs Y y) grid nearXY nearXP nearYP
+      (accepted-clears limit vs Y (reference-accepted limit vs Y y))
+      (λ i. first-none (isHeldBy vs P) 0 (vertexCount vs) i h)
 
   from-X : numberOf (answerOf limit vs X P) ≡ numberBy (boundaryOf vs P) (arc vs X P)
   from-X = number-judged limit vs X P (judge-passed limit vs X P x p nearXP)

@@ -1,4 +1,5 @@
 -- Laws of the definitions of specs/, a file for each.
+pub mod Search
 pub mod First
 pub mod Count
-pub mod Accepted
+pub mod Checks

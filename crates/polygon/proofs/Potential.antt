@@ -17,8 +17,9 @@ use Rattle.sphere.proofs.Defect.{covers, defect, defect-even}
 use Rattle.polygon.specs.Vertices.{vertexCount, vertexAt, nextOf, startOf, endOf}
 use Rattle.polygon.specs.Verdict.{isHeldBy, isCrossed}
 use Rattle.polygon.proofs.Laws.First.{Each}
-use Rattle.polygon.proofs.Laws.Count.{oddFrom, odd-none, odd-sum, next-below, ends-even}
-use Rattle.polygon.proofs.Laws.Accepted.{Accepted}
+use Rattle.polygon.proofs.Laws.Count.{oddFrom, odd-none, odd-sum, ends-even}
+use Rattle.polygon.proofs.Laws.Search.{next-below}
+use Rattle.polygon.proofs.Laws.Checks.{Reference}
 
 -- The arc from X to P crosses an odd number of edges.
 abbrev pub arc : List ℤ → Point → Point → Bool
@@ -58,7 +59,7 @@ module _ (limit : ℕ) (vs : List ℤ) where
   bit P = arc vs (generic limit) P
 
   -- ---- the main lemma
-  pub arc-bits : (X P : Point) → Accepted limit vs X → Within limit P → isAntipodal X P ≡ false → Clears vs P →
+  pub arc-bits : (X P : Point) → Reference limit vs X → Within limit P → isAntipodal X P ≡ false → Clears vs P →
       arc vs X P ≡ (bit X ⊕ bit P)
   unfolding bit
   arc-bits X P a p near clear =
@@ -68,17 +69,18 @@ module _ (limit : ℕ) (vs : List ℤ) where
       even : Each (λ i. defectAt vs (generic limit) X P i ≡ false) 0 (vertexCount vs)
       even i from below =
           let l : i < vertexCount vs = omega arith in
-          defect-even limit X P (startOf vs i) (endOf vs i) (a .reference) p (a .on-grid i l)
-          (a .on-grid (nextOf (vertexCount vs) i) (next-below (vertexCount vs) i l)) (a .off-circle i l) near
+          let grid = a .accepted .gridded .each in
+          defect-even limit X P (startOf vs i) (endOf vs i) (a .accepted .known) p (grid i l)
+          (grid (nextOf (vertexCount vs) i) (next-below (vertexCount vs) i l)) (a .off-circle i l) near
           (clear i from below)
 
   three : (x y p : Bool) → (y ⊕ p) ≡ (x ⊕ y ⊕ (x ⊕ p))
   three x y p = simp parity
 
   -- ---- two reference points and a query: each bit stands twice
-  pub arcs : (X Y P : Point) → Accepted limit vs X → Accepted limit vs Y → Within limit P →
+  pub arcs : (X Y P : Point) → Reference limit vs X → Reference limit vs Y → Within limit P →
       isAntipodal X Y ≡ false → isAntipodal X P ≡ false → isAntipodal Y P ≡ false → Clears vs Y → Clears vs P →
       arc vs Y P ≡ (arc vs X Y ⊕ arc vs X P)
   arcs X Y P a b p nearXY nearXP nearYP clearY clearP =
       arc-bits Y P b p nearYP clearP ∙ three (bit X) (bit Y) (bit P)
-      ∙ sym (ap₂ _⊕_ (arc-bits X Y a (b .reference) nearXY clearY) (arc-bits X P a p nearXP clearP))
+      ∙ sym (ap₂ _⊕_ (arc-bits X Y a (b .accepted .known) nearXY clearY) (arc-bits X P a p nearXP clearP))

@@ -1,9 +1,10 @@
 // One edge crossed by the arc from the reference point to the query.
-// Here, in order: changes_side, crosses_by, crosses. Document 01, 'When the arc crosses a side'. A walk over a polygon
-// has some of the four orientations at hand, and uses the first two functions. Assumes nothing.
+// Here, in order: changes_side, crosses_by, crosses_from, crosses. Document 01, 'When the arc crosses a side'. A walk
+// over a polygon has some of the four orientations at hand, and uses crosses_from. Assumes nothing.
 ghost use mathlib.Core.Path.{_≡_};
 ghost use Rattle.integers.specs.Sign.{signOf};
 ghost use Rattle.sphere.specs.Point.{coarse, Within};
+ghost use Rattle.sphere.specs.Orientation.{orientationOf};
 ghost use Rattle.sphere.specs.Crossing.{crossesBy, crossesOf, changesSide};
 use crate::orientation::orientation;
 use crate::point::Point;
@@ -35,6 +36,17 @@ pub fn crosses_by(s1: i64, s2: i64, s3: i64, s4: i64) -> bool
         if s3 < 0 {
             return s4 > 0;
         }
+    }
+    false
+}
+
+// By s1, s2 and s4. s3 is worked out only where the edge changes side.
+pub fn crosses_from(x: Point, a: Point, b: Point, s1: i64, s2: i64, s4: i64) -> bool
+    requires { ⌜ Within coarse x × Within coarse a × Within coarse b ⌝ }
+    ensures { λ r. ⌜ r ≡ crossesBy (signOf s1) (signOf s2) (signOf (orientationOf a b x)) (signOf s4) ⌝ }
+{
+    if changes_side(s1, s2) {
+        return crosses_by(s1, s2, orientation(a, b, x), s4);
     }
     false
 }

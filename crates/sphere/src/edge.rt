@@ -1,9 +1,9 @@
 // A point on an edge.
-// Here, in order: toward, between, held_by, holds_level, on_edge. Document 01, 'Points, sides, outlines': one component
-// of a×b that is not zero tells by signs alone. Assumes nothing.
+// Here, in order: toward, between, held_by, holds_level, on_circle, on_edge_by, on_edge. Document 01, 'Points, sides,
+// outlines': one component of a×b that is not zero tells by signs alone. Assumes nothing.
 ghost use mathlib.Core.Path.{_≡_};
 ghost use lib.IntN.{pos};
-ghost use Rattle.integers.specs.Sign.{nought, signOf, isAtLeastZero, times};
+ghost use Rattle.integers.specs.Sign.{nought, signOf, isZero, isAtLeastZero, times};
 ghost use Rattle.sphere.specs.Point.{coarse, Within};
 ghost use Rattle.sphere.specs.Orientation.{orientationOf};
 ghost use Rattle.sphere.specs.OnEdge.{onEdgeBy, heldBy, isOnEdge};
@@ -71,13 +71,29 @@ pub fn holds_level(a: Point, b: Point, p: Point) -> bool
     held_by(cross(a, b), cross(a, p), cross(p, b))
 }
 
-// Most points are off the plane of the edge, which one orientation tells.
+// A point lies on the great circle of the edge.
+pub fn on_circle(a: Point, b: Point, p: Point) -> bool
+    requires { ⌜ Within coarse a × Within coarse b × Within coarse p ⌝ }
+    ensures { λ r. ⌜ r ≡ isZero (signOf (orientationOf a b p)) ⌝ }
+{
+    orientation(a, b, p) == 0
+}
+
+// By turn = orientation(a, b, p): most points are off the plane of the edge.
+pub fn on_edge_by(a: Point, b: Point, p: Point, turn: i64) -> bool
+    requires { ⌜ Within coarse a × Within coarse b × Within coarse p ⌝ }
+    requires { ⌜ turn ≡ orientationOf a b p ⌝ }
+    ensures { λ r. ⌜ r ≡ isOnEdge a b p ⌝ }
+{
+    if turn != 0 {
+        return false;
+    }
+    holds_level(a, b, p)
+}
+
 pub fn on_edge(a: Point, b: Point, p: Point) -> bool
     requires { ⌜ Within coarse a × Within coarse b × Within coarse p ⌝ }
     ensures { λ r. ⌜ r ≡ isOnEdge a b p ⌝ }
 {
-    if orientation(a, b, p) != 0 {
-        return false;
-    }
-    holds_level(a, b, p)
+    on_edge_by(a, b, p, orientation(a, b, p))
 }

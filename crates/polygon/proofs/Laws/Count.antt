@@ -1,13 +1,12 @@
 -- The parity of a count over the numbers from i on, and round a ring. Defined: oddFrom (an odd number of them pass).
--- Proved, in order: count-odd (so says the count), odd-none, odd-sum, next-below, ends-even (round a ring each vertex
+-- Proved, in order: count-odd (so says the count), odd-none, odd-sum, ends-even (round a ring each vertex
 -- is an end of two edges). Assumes nothing.
 use mathlib.Core.Path.{_≡_, refl, _∙_, ap, ap₂}
 use mathlib.Core.Bool.{Bool, true, false, cond}
-use Prim.Native.Nat.{ℕ, zero, suc, _+_, _%_, _<_}
+use Prim.Native.Nat.{ℕ, zero, suc, _+_, _%_}
 use native.Mathlib.Omega.{arith}
 use native.Mathlib.Numerals.{add-one}
-use borrow.Author.Tests.{lt-ltb, le-ltb, ltb-true}
-use lib.Dec.{ltb}
+use borrow.Author.Tests.{lt-ltb, le-ltb}
 use Rattle.sphere.proofs.Parity.{_⊕_, parity, ⊕-self, ⊕-false}
 use Rattle.polygon.specs.Search.{countFrom}
 use Rattle.polygon.specs.Vertices.{nextOf}
@@ -38,14 +37,6 @@ odd-sum f g i zero = refl
 odd-sum f g i (suc k) = ap (λ x. f i ⊕ g i ⊕ x) (odd-sum f g (suc i) k) ∙ simp parity
 
 -- ---- round a ring of n
-pub next-below : (n i : ℕ) → i < n → nextOf n i < n
-unfolding nextOf
-next-below n i h = go (ltb (i + 1) n) refl
-  where
-    go : (b : Bool) → ltb (i + 1) n ≡ b → cond b (i + 1) 0 < n
-    go true e = ltb-true (i + 1) n e
-    go false e = omega arith
-
 next-inner : (n i k : ℕ) → i + suc (suc k) ≡ n → nextOf n i ≡ suc i
 unfolding nextOf
 next-inner n i k h = rw (lt-ltb (i + 1) n (omega arith)) (add-one i)

@@ -1,0 +1,21 @@
+//! Compiles the C contestants: an archive with the call, and the program.
+
+use std::env;
+use std::process::Command;
+
+fn main() {
+    let out = env::var("OUT_DIR").expect("OUT_DIR");
+    let run = |program: &str, words: &[&str]| {
+        let status = Command::new(program).args(words).status();
+        assert!(status.expect(program).success(), "{program} {words:?}");
+    };
+    let [object, archive, program] =
+        ["judge.o", "libjudge.a", "zone_judge"].map(|name| format!("{out}/{name}"));
+    let cc = |words: &[&str]| run("cc", &[&["-std=c11", "-O3", "-Wall", "-Wextra"], words].concat());
+    cc(&["-c", "src/judge.c", "-o", &object]);
+    run("ar", &["rcs", &archive, &object]);
+    cc(&["src/zone_judge.c", &object, "-o", &program]);
+    println!("cargo:rustc-link-search=native={out}");
+    println!("cargo:rustc-link-lib=static=judge");
+    println!("cargo:rerun-if-changed=src");
+}

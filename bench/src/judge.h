@@ -1,0 +1,11 @@
+/* The C contestants' own answer, and the call that gives it: see judge.c. */
+#include <stddef.h>
+#include <stdint.h>
+
+typedef struct {
+    uint32_t number;
+    size_t place;
+    uint32_t count;
+} answer;
+
+answer c_judge(const uint8_t *sheet, size_t sheet_len, int32_t x, int32_t y, int32_t z);

@@ -1,0 +1,21 @@
+// What the charts are made of.
+// Here, in order: LIMIT, OVER, point, inner, octant. Assumes nothing.
+use sphere::point::Point;
+
+// The limit of the grid, and the first number beyond it.
+pub(crate) const LIMIT: i64 = 1_048_576;
+
+pub(crate) const OVER: i64 = 1_048_577;
+
+pub(crate) fn point(x: i64, y: i64, z: i64) -> Point {
+    Point { x: x, y: y, z: z }
+}
+
+// The known point of the octant.
+pub(crate) fn inner() -> Point {
+    point(1, 1, 1)
+}
+
+pub(crate) fn octant() -> [i32; 9] {
+    [1, 0, 0, 0, 1, 0, 0, 0, 1]
+}

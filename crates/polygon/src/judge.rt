@@ -1,0 +1,112 @@
+// The verdict on a query, and the judging call.
+// Here, in order: by_parity, verdict_by, crossing, verdict, judge_query, judge. Document 01, 'When the arc crosses a
+// side' and 'What comes back'. Nothing is copied for a query, and each vertex is read once. Assumes nothing.
+ghost use mathlib.Core.Path.{_≡_};
+ghost use mathlib.Core.Bool.{cond};
+ghost use Rattle.integers.specs.Sign.{signOf};
+ghost use Rattle.sphere.specs.Point.{coarse, Within};
+ghost use Rattle.sphere.specs.Orientation.{orientationOf};
+ghost use Rattle.sphere.specs.Crossing.{crossesBy};
+ghost use Rattle.polygon.specs.declared.answer.Found.the-variants.{Nothing};
+ghost use Rattle.polygon.specs.declared.answer.Check.the-variants.{Passed};
+ghost use Rattle.polygon.specs.Checks.{acceptCheck};
+ghost use Rattle.polygon.specs.Accepted.{Accepted};
+ghost use Rattle.polygon.specs.Verdict.{verdictBy, verdictOf, answerOf};
+use crate::answer::Answer;
+use crate::answer::Check;
+use crate::answer::Found;
+use crate::checks::accept_check;
+use crate::checks::far_check;
+use crate::checks::query_check;
+use crate::vertices::end_of;
+use crate::vertices::vertex_at;
+use sphere::crossing::crosses_from;
+use sphere::edge::on_edge_by;
+use sphere::orientation::orientation;
+use sphere::point::Point;
+
+// An even number of crossings means inside.
+pub fn by_parity(crossed: u32) -> Answer
+    ensures { λ r. ⌜ r ≡ verdictBy Nothing crossed ⌝ }
+{
+    if crossed % 2 == 0 {
+        return Answer::Inside(crossed);
+    }
+    Answer::Outside(crossed)
+}
+
+// Boundary, or by parity.
+pub fn verdict_by(found: Found, crossed: u32) -> Answer
+    ensures { λ r. ⌜ r ≡ verdictBy found crossed ⌝ }
+{
+    match found {
+        Found::Nothing => by_parity(crossed),
+        Found::At(edge) => Answer::Boundary(edge),
+    }
+}
+
+// What the edge from a to b adds to the count, by the orientations s1, s2 and s4.
+pub fn crossing(known: Point, a: Point, b: Point, s1: i64, s2: i64, s4: i64) -> u32
+    requires { ⌜ Within coarse known × Within coarse a × Within coarse b ⌝ }
+    ensures { λ r. ⌜ r ≡ cond (crossesBy (signOf s1) (signOf s2) (signOf (orientationOf a b known)) (signOf s4)) 1 0 ⌝ }
+{
+    if crosses_from(known, a, b, s1, s2, s4) {
+        return 1;
+    }
+    0
+}
+
+// One pass over the edges: the first that holds the query ends it, and the crossings are counted on the way.
+pub fn verdict(vertices: &[i32], known: Point, query: Point) -> Answer
+    requires { ⌜ Accepted coarse (now vertices) known × Within coarse query ⌝ }
+    ensures { λ r. ⌜ r ≡ verdictOf (now (vertices .entry)) known query ⌝ }
+{
+    let n = vertices.len() / 3;
+    let mut i = 0;
+    let mut a = vertex_at(vertices, i);
+    let mut s1 = orientation(known, query, a);
+    let mut crossed: u32 = 0;
+    let found = loop {
+        if i >= n {
+            break Found::Nothing;
+        }
+        let b = end_of(vertices, i);
+        let s4 = orientation(a, b, query);
+        if on_edge_by(a, b, query, s4) {
+            break Found::At(i);
+        }
+        let s2 = orientation(known, query, b);
+        crossed += crossing(known, a, b, s1, s2, s4);
+        a = b;
+        s1 = s2;
+        i += 1;
+    };
+    verdict_by(found, crossed)
+}
+
+// One query to an accepted polygon: a caller with many queries has the polygon checked once.
+pub fn judge_query(vertices: &[i32], known: Point, query: Point) -> Answer
+    requires { ⌜ acceptCheck coarse (now vertices) known ≡ Passed ⌝ }
+    ensures { λ r. ⌜ r ≡ answerOf coarse (now (vertices .entry)) known query ⌝ }
+{
+    match query_check(query) {
+        Check::Passed => {}
+        Check::Failed(number, place) => return Answer::Refused(number, place),
+    }
+    match far_check(known, query) {
+        Check::Passed => {}
+        Check::Failed(number, place) => return Answer::Refused(number, place),
+    }
+    verdict(vertices, known, query)
+}
+
+// The judging call: any numbers.
+pub fn judge(vertices: &[i32], known: Point, query: Point) -> Answer
+    ensures { λ r. ⌜ r ≡ answerOf coarse (now (vertices .entry)) known query ⌝ }
+{
+    match accept_check(vertices, known) {
+        Check::Passed => {}
+        Check::Failed(number, place) => return Answer::Refused(number, place),
+    }
+    judge_query(vertices, known, query)
+}

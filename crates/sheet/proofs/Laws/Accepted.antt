@@ -1,0 +1,76 @@
+-- What an accepted list and known point are known to be: the checks 10, 11 and 15, in numbers.
+-- Proved, in order: whole-passed, accepted-list, accepted-known, accepted-number; fits-word, within-word (such numbers
+-- fit 32 bits). Assumes nothing.
+use mathlib.Core.Path.{_≡_, refl}
+use mathlib.Core.Bool.{Bool, true, false}
+use mathlib.Core.List.{List}
+use Prim.Native.Nat.{ℕ, zero, suc, _+_, _*_, _/_, _%_, _≤_, _<_, zero-le}
+use native.Mathlib.Omega.{arith}
+use borrow.Author.Tests.{ltb-true, ltb-false, le-leb, eq-eqb, leb-true, eqb-true, not-false}
+use lib.Dec.{ltb}
+use lib.IntN.{ℤ, pos}
+use lib.ListN.{length, getD, List·getD-eq-default}
+use Rattle.sphere.specs.declared.point.Point.{Point}
+use Rattle.sphere.specs.Point.{coarse, Fits, Within}
+use Rattle.polygon.specs.declared.answer.Check.the-variants.{Passed}
+use Rattle.polygon.specs.Vertices.{vertexCount, vertexAt}
+use Rattle.polygon.specs.Checks.{listCheck, polygonCheck, acceptCheck}
+use Rattle.polygon.proofs.Laws.Checks.{fails-if-passed, then-passed, accept-passed}
+use Rattle.sheet.proofs.Laws.Checks.{and-true}
+
+-- A list that line 10 lets through.
+pub record Whole (vs : List ℤ) : Type 0 where
+  pub threes : length vs % 3 ≡ 0
+  pub least : 3 ≤ length vs / 3
+  pub most : length vs / 3 ≤ 4096
+
+pub whole-passed : (vs : List ℤ) → Whole vs → listCheck vs ≡ Passed
+unfolding listCheck
+whole-passed vs l =
+    let n = length vs / 3 in
+    rw (eq-eqb (length vs % 3) 0 (l .threes), le-leb 3 n (l .least), le-leb n 4096 (l .most))
+
+module _ (limit : ℕ) (vs : List ℤ) (X : Point) (ok : acceptCheck limit vs X ≡ Passed) where
+  list-check : listCheck vs ≡ Passed
+  unfolding acceptCheck polygonCheck
+  list-check = then-passed (listCheck vs) _ (then-passed (polygonCheck limit vs) _ ok .0) .0
+
+  pub accepted-list : Whole vs
+  unfolding listCheck
+  accepted-list =
+      let one = and-true _ _ (not-false _ (fails-if-passed 10 _ list-check)) in
+      let two = and-true _ _ (one .1) in
+      record {
+        threes = eqb-true (length vs % 3) 0 (one .0);
+        least = leb-true 3 (length vs / 3) (two .0);
+        most = leb-true (length vs / 3) 4096 (two .1);
+      }
+
+  pub accepted-known : Within limit X
+  accepted-known = accept-passed ok .known
+
+  third-fits : (i r : ℕ) → r < 3 → i < vertexCount vs → Fits limit (getD vs (i * 3 + r) (pos 0))
+  unfolding vertexAt
+  third-fits i zero l h = let z : i * 3 + 0 ≡ i * 3 = omega arith in rw z (accept-passed ok .gridded .each i h .at-x)
+  third-fits i (suc zero) l h = accept-passed ok .gridded .each i h .at-y
+  third-fits i (suc (suc zero)) l h = accept-passed ok .gridded .each i h .at-z
+  third-fits i (suc (suc (suc r))) l h = absurd (omega arith)
+
+  number-fits : (j : ℕ) (t : Bool) → ltb j (length vs) ≡ t → Fits limit (getD vs j (pos 0))
+  number-fits j true e =
+      let l = accepted-list in
+      let h = ltb-true j (length vs) e in
+      let z : j ≡ j / 3 * 3 + j % 3 = omega arith in
+      rw z (third-fits (j / 3) (j % 3) (omega arith) (omega arith))
+  number-fits j false e = rw (List·getD-eq-default vs (pos 0) (ltb-false j (length vs) e)) (record { within = zero-le })
+
+  -- Each number of the list. Past its end the list reads as 0.
+  pub accepted-number : (j : ℕ) → Fits limit (getD vs j (pos 0))
+  accepted-number j = number-fits j (ltb j (length vs)) refl
+
+-- ---- numbers of the grid fit 32 bits
+pub fits-word : {k : ℤ} → Fits coarse k → Fits 2147483647 k
+fits-word f = let h = f .within in record { within = omega arith }
+
+pub within-word : {p : Point} → Within coarse p → Within 2147483647 p
+within-word w = record { at-x = fits-word (w .at-x); at-y = fits-word (w .at-y); at-z = fits-word (w .at-z) }

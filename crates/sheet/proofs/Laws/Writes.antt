@@ -1,0 +1,103 @@
+-- What writing answers and leaves, case by case.
+-- Proved, in order: passed-writable, input-sizes, input-storable (what input that passes is known to be);
+-- write-refused, write-short, write-done (the three ways that writing ends). Assumes nothing.
+use mathlib.Core.Path.{_≡_, sym, ap, _∙_}
+use mathlib.Core.List.{List, _++_}
+use Prim.Native.Nat.{ℕ, _+_, _≤_, _<_}
+use native.Mathlib.Omega.{arith}
+use borrow.Author.Tests.{lt-ltb, le-ltb, leb-true, not-false}
+use lib.Dec.{leb}
+use lib.IntN.{ℤ}
+use lib.ListN.{length, drop}
+use lib.Seq.{sets, sets-eq}
+use Rattle.sphere.specs.declared.point.Point.{Point}
+use Rattle.sphere.specs.Point.{coarse}
+use Rattle.polygon.specs.declared.answer.Answer.{Answer}
+use Rattle.polygon.specs.declared.answer.Answer.the-variants.{Done, Refused}
+use Rattle.polygon.specs.declared.answer.Check.the-variants.{Passed, Failed}
+use Rattle.polygon.proofs.Laws.Checks.{then-passed}
+use Rattle.sheet.specs.Fields.{isCharset}
+use Rattle.sheet.specs.Write.{sheetBytes, neededFor, Storable, inputCheck, writeCheck, writeOf, writtenTo}
+use Rattle.sheet.proofs.Laws.Checks.{and-true, then-failed, then-next, here-passed}
+use Rattle.sheet.proofs.Laws.Fields.{allowed-bounds}
+use Rattle.sheet.proofs.Laws.Accepted.{accepted-list, accepted-known, within-word}
+use Rattle.sheet.proofs.Laws.Written.{Writable}
+use Rattle.sheet.proofs.Laws.Stores.{sheetBytes-length}
+
+module _ (charset : ℕ) (name : List ℕ) (known : Point) (vertices : List ℤ) where
+  pub passed-writable :
+      (zone : ℕ) → zone < 4294967296 → inputCheck charset name known vertices ≡ Passed →
+      Writable zone charset name known vertices
+  unfolding inputCheck
+  passed-writable zone small e =
+      let one = then-passed _ _ e in
+      let two = then-passed _ _ (one .1) in
+      record {
+        small = small;
+        coded = not-false _ (here-passed 23 0 _ (one .0));
+        named = not-false _ (here-passed 22 0 _ (two .0));
+        accepted = two .1;
+      }
+
+  module _ (ok : inputCheck charset name known vertices ≡ Passed) where
+    pub input-sizes : (length name ≤ 120) × (length vertices ≤ 12288)
+    input-sizes =
+        let w = passed-writable 0 (omega arith) ok in
+        let l = accepted-list coarse vertices known (w .accepted) in
+        let n = allowed-bounds 1 120 1 (length name) (w .named) in
+        (omega arith, omega arith)
+
+    charset-small : charset < 256
+    unfolding isCharset
+    charset-small =
+        let w = passed-writable 0 (omega arith) ok in
+        let h = leb-true charset 3 (and-true (leb 1 charset) (leb charset 3) (w .coded) .1) in
+        omega arith
+
+    pub input-storable : (room : ℕ) → neededFor name vertices ≤ room → Storable charset name known vertices room
+    input-storable room h =
+        let w = passed-writable 0 (omega arith) ok in
+        record {
+          charset-small = charset-small;
+          name-short = input-sizes .0;
+          known-small = within-word (accepted-known coarse vertices known (w .accepted));
+          row-short = input-sizes .1;
+          enough = h;
+        }
+
+  -- ---- the three ways that writing ends
+  module _ (zone : ℕ) (buffer : List ℕ) where
+    -- The answer and the buffer after writing.
+    pub record Ends (answer : Answer) (left : List ℕ) : Type 0 where
+      pub answered : writeOf charset name known vertices (length buffer) ≡ answer
+      pub filled : writtenTo zone charset name known vertices buffer ≡ left
+
+    failed-ends :
+        {n p : ℕ} → writeCheck charset name known vertices (length buffer) ≡ Failed n p → Ends (Refused n p) buffer
+    unfolding writeOf writtenTo
+    failed-ends e = record { answered = rw e; filled = rw e }
+
+    pub write-refused : {n p : ℕ} → inputCheck charset name known vertices ≡ Failed n p → Ends (Refused n p) buffer
+    unfolding writeCheck
+    write-refused e = failed-ends (then-failed _ e)
+
+    module _ (ok : inputCheck charset name known vertices ≡ Passed) where
+      pub write-short : length buffer < neededFor name vertices → Ends (Refused 25 (neededFor name vertices)) buffer
+      unfolding writeCheck
+      write-short h = failed-ends (then-next _ ok ∙ rw (lt-ltb (length buffer) (neededFor name vertices) h))
+
+      enough-passed :
+          neededFor name vertices ≤ length buffer → writeCheck charset name known vertices (length buffer) ≡ Passed
+      unfolding writeCheck
+      enough-passed h = then-next _ ok ∙ rw (le-ltb (length buffer) (neededFor name vertices) h)
+
+      pub write-done :
+          neededFor name vertices ≤ length buffer →
+          Ends (Done (neededFor name vertices)) (sets buffer 0 (sheetBytes zone charset name known vertices))
+      unfolding writeOf writtenTo
+      write-done h =
+          let sheet = sheetBytes zone charset name known vertices in
+          let n = sheetBytes-length zone charset name known vertices in
+          let z : 0 + length sheet ≡ length sheet = omega arith in
+          let stored = sets-eq sheet buffer 0 (omega arith) ∙ ap (λ (k : ℕ). sheet ++ drop k buffer) z in
+          record { answered = rw (enough-passed h); filled = rw (enough-passed h) (sym stored) }

@@ -1,0 +1,111 @@
+-- `judge::judge` meets its contract: the polygon that the checks decoded is the sheet's, and it is accepted.
+-- Assumes nothing.
+use mathlib.Core.Path.{_≡_, sym, ap₂, _∙_}
+use mathlib.Core.List.{List}
+use Prim.Native.Nat.{ℕ, _*_, _≤_}
+use borrow.Author.Needs.{needs}
+use lib.IntN.{ℤ, pos}
+use lib.ListN.{length, take, replicate}
+use lib.Seq.{length-take-le}
+use Rattle.sphere.specs.Point.{coarse}
+use Rattle.polygon.specs.declared.answer.Check.the-variants.{Passed}
+use Rattle.polygon.specs.Checks.{acceptCheck}
+use Rattle.polygon.specs.Verdict.{answerOf}
+use Rattle.sheet.specs.Fields.{sheetFields}
+use Rattle.sheet.specs.Sheet.{verticesOf, sheetCheck, loadedAfter}
+use Rattle.sheet.specs.Judge.{sheetAnswerOf}
+use Rattle.sheet.proofs.Laws.Reads.{sheet-passed, sheet-sound, decoded-by, loaded-row, loaded-room}
+use Rattle.sheet.proofs.judge.judge.Statement.{statement}
+use Rattle.sheet.proofs.judge.judge.Tie as tie
+
+passed : (c : tie.After-enum-told) → sheetCheck (c .before .before .before .before .before .args .b .now) ≡ Passed
+passed c = sym (c .before .before .«open» .ensures .0) ∙ c .enum-told .given .1
+
+sound : (c : tie.After-enum-told) → sheetFields (c .before .before .before .before .before .args .b .now) ≡ Passed
+sound c = sheet-sound (c .before .before .before .before .before .args .b .now) (passed c)
+
+-- What the checks left in the scratch space: the vertices in front.
+front :
+    (c : tie.After-vertex-count) →
+    c .before .before .before .«open» .last .1 .0
+    ≡ loadedAfter Passed (c .before .before .before .before .before .before .args .b .now) (replicate 12288 (pos 0))
+front c =
+    let o = c .before .before .before in
+    let b = o .before .before .before .args .b .now in
+    o .«open» .ensures .1 ∙ decoded-by b _ (sheet-passed b (passed (c .before)) .0)
+
+-- The part of it that is judged, and that it is there.
+row :
+    (c : tie.After-vertex-count) →
+    take (c .vertex-count .result * 3) (c .before .before .before .«open» .last .1 .0)
+    ≡ verticesOf (c .before .before .before .before .before .before .args .b .now)
+row c =
+    ap₂ (λ (k : ℕ) (l : List ℤ). take (k * 3) l) (c .vertex-count .ensures .0) (front c)
+    ∙ loaded-row (c .before .before .before .before .before .before .args .b .now) _
+
+room :
+    (c : tie.After-vertex-count) →
+    c .vertex-count .result * 3 ≤ length (c .before .before .before .«open» .last .1 .0)
+room c =
+    rw (c .vertex-count .ensures .0, front c) (loaded-room
+    (c .before .before .before .before .before .before .args .b .now) _)
+
+open-requires : tie.Need-open-requires
+open-requires c κs = search needs
+
+enum-told : tie.Need-enum-told
+enum-told c = search needs
+
+vertex-count-requires : tie.Need-vertex-count-requires
+vertex-count-requires c κs = sound c
+
+mul-size : tie.Need-mul-size
+mul-size c = search needs
+
+array-share-prefix-scratch : tie.Need-array-share-prefix-scratch
+array-share-prefix-scratch c = room c
+
+slice-aggregate-judge-query : tie.Need-slice-aggregate-judge-query
+slice-aggregate-judge-query c = sym (length-take-le _ _ (room (c .before)))
+
+known-point-requires : tie.Need-known-point-requires
+known-point-requires c κs = sound (c .before .before)
+
+judge-query-requires : tie.Need-judge-query-requires
+judge-query-requires c κs =
+    let v = c .before .before in
+    let b = v .before .before .before .before .before .before .args .b .now in
+    ap₂ (acceptCheck coarse) (row v) (c .known-point .ensures) ∙ sheet-passed b (passed (v .before)) .1
+
+enum-known-number : tie.Need-enum-known-number
+enum-known-number c = search needs
+
+returns : tie.Need-returns
+unfolding sheetAnswerOf
+returns c =
+    let v = c .before .before .before in
+    let i = v .before .before .before .before .before .before .args in
+    rw (passed (v .before))
+    (c .judge-query .ensures ∙ (λ k. answerOf coarse (row v k) (c .before .known-point .ensures k) (i .query)))
+
+returns-2 : tie.Need-returns-2
+unfolding sheetAnswerOf
+returns-2 c =
+    let o = c .before .before .before in
+    rw (sym (o .«open» .ensures .0) ∙ c .before .number .given .1)
+
+pub judge-spec : {M : Type 1} → statement M
+judge-spec =
+    tie.close
+    (tie.spec
+    open-requires
+    enum-told
+    vertex-count-requires
+    mul-size
+    array-share-prefix-scratch
+    slice-aggregate-judge-query
+    known-point-requires
+    judge-query-requires
+    enum-known-number
+    returns
+    returns-2)

@@ -1,0 +1,83 @@
+-- The promised theorems, as statements. Their proofs are in proofs/Claims.
+-- Stated, in order: WrittenReadsBack (what is written reads back the same), ReadWritesBack (what is read writes back
+-- the same bytes), ReadNeverTen (reading never gives 10), SheetSize (a sheet has 69 to 49,304 bytes), OctantSheet
+-- (document 01's sheet of 69 bytes, byte by byte: the round trips would hold of another layout too). They are of the
+-- definitions that the contracts of `read`, `load` and `write` cite. Assumes nothing.
+use mathlib.Core.Path.{_≡_}
+use mathlib.Core.List.{List, [], _∷_, _++_}
+use Prim.Native.Nat.{ℕ, _≤_, _<_}
+use lib.IntN.{ℤ, pos}
+use lib.ListN.{length, take, drop}
+use Rattle.sphere.specs.declared.point.Point.{Point}
+use Rattle.big_endian.specs.Bytes.{AreBytes}
+use Rattle.polygon.specs.declared.answer.Answer.the-variants.{Done}
+use Rattle.polygon.specs.Answer.{numberOf, placeOf}
+use Rattle.polygon.specs.Vertices.{vertexCount}
+use Rattle.sheet.specs.declared.read.Sheet.{Sheet}
+use Rattle.sheet.specs.Sheet.{nameAt, verticesOf, readOf}
+use Rattle.sheet.specs.Write.{sheetBytes, writeOf, writtenTo}
+
+-- The name's bytes, by the place and the length that reading hands back.
+abbrev pub nameIn : Sheet → List ℕ → List ℕ
+nameIn s b = take (s .«name_len») (drop (s .«name_at») b)
+
+-- Reading the bytes b hands back these parts, and no refusal.
+pub record ReadsAs (zone charset : ℕ) (name : List ℕ) (known : Point) (vertices : List ℤ) (b : List ℕ) : Type 0 where
+  pub handed-back : readOf b ≡ record {
+    answer = Done (length b);
+    zone = zone;
+    charset = charset;
+    «name_at» = nameAt;
+    «name_len» = length name;
+    known = known;
+    «vertex_count» = vertexCount vertices;
+  }
+  pub same-name : nameIn (readOf b) b ≡ name
+  pub same-vertices : verticesOf b ≡ vertices
+
+-- After a successful write, reading exactly the bytes written. The place of success is how many they are.
+abbrev pub WrittenReadsBack : Type 0
+WrittenReadsBack =
+    (zone charset : ℕ) (name : List ℕ) (known : Point) (vertices : List ℤ) (buffer : List ℕ) → zone < 4294967296 →
+    numberOf (writeOf charset name known vertices (length buffer)) ≡ 0 →
+    ReadsAs zone charset name known vertices
+    (take (placeOf (writeOf charset name known vertices (length buffer)))
+    (writtenTo zone charset name known vertices buffer))
+
+-- After a successful read, writing what was read into a buffer of as many bytes.
+abbrev pub ReadWritesBack : Type 0
+ReadWritesBack =
+    (b buffer : List ℕ) → AreBytes b → numberOf (readOf b .answer) ≡ 0 → length buffer ≡ length b →
+    let s = readOf b in
+    (writeOf (s .charset) (nameIn s b) (s .known) (verticesOf b) (length buffer) ≡ Done (length b))
+    × (writtenTo (s .zone) (s .charset) (nameIn s b) (s .known) (verticesOf b) buffer ≡ b)
+
+-- A list that is too short or too long is refused by its length, 22.
+abbrev pub ReadNeverTen : Type 0
+ReadNeverTen = (b : List ℕ) → numberOf (readOf b .answer) ≡ 10 → ⊥
+
+abbrev pub SheetSize : Type 0
+SheetSize = (b : List ℕ) → numberOf (readOf b .answer) ≡ 0 → (69 ≤ length b) × (length b ≤ 49304)
+
+-- The octant with known point (1,1,1), zone number 7, character set 1 and the one-byte name 0x41.
+abbrev octant : List ℤ
+octant = pos 1 ∷ pos 0 ∷ pos 0 ∷ pos 0 ∷ pos 1 ∷ pos 0 ∷ pos 0 ∷ pos 0 ∷ pos 1 ∷ []
+
+abbrev centre : Point
+centre = record { x = pos 1; y = pos 1; z = pos 1 }
+
+-- A number from 0 to 255, as a coordinate's four bytes.
+abbrev coordinates : List ℕ → List ℕ
+coordinates [] = []
+coordinates (n ∷ ns) = 0 ∷ 0 ∷ 0 ∷ n ∷ coordinates ns
+
+unfoldable pub octantBytes : List ℕ
+octantBytes =
+    (1 ∷ 0 ∷ 4 ∷ 0 ∷ 0 ∷ 0 ∷ 7 ∷ [])
+    ++ ((2 ∷ 0 ∷ 1 ∷ 1 ∷ [])
+    ++ ((3 ∷ 0 ∷ 1 ∷ 65 ∷ [])
+    ++ ((4 ∷ 0 ∷ 12 ∷ coordinates (1 ∷ 1 ∷ 1 ∷ []))
+    ++ (5 ∷ 0 ∷ 36 ∷ coordinates (1 ∷ 0 ∷ 0 ∷ 0 ∷ 1 ∷ 0 ∷ 0 ∷ 0 ∷ 1 ∷ [])))))
+
+abbrev pub OctantSheet : Type 0
+OctantSheet = sheetBytes 7 1 (65 ∷ []) centre octant ≡ octantBytes

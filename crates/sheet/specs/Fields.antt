@@ -1,0 +1,88 @@
+-- Document 01, 'The zone sheet', first layer: the fields, by bytes alone. Refusals 20 to 24, each with its place.
+-- Defined, in order: failsHere; isAllowed, fieldEnd, fieldCheck (one field: 20, 21, 22, 20); charsetStart, nameStart,
+-- knownStart, verticesStart, sheetEnd; zoneCheck, isCharset, charsetCheck, isNameLength, nameCheck, knownCheck,
+-- verticesCheck; sheetFields (20 to 23), restCheck (24), fieldsCheck. A field begins at its tag. What the fields mean is in
+-- specs/Sheet. Assumes nothing.
+use mathlib.Core.Bool.{Bool, not, _&&_, cond}
+use mathlib.Core.List.{List}
+use Prim.Native.Nat.{ℕ, _+_, _%_}
+use lib.Dec.{eqb, leb, ltb}
+use lib.ListN.{length}
+use Rattle.big_endian.specs.Bytes.{byteAt, shortAt}
+use Rattle.polygon.specs.declared.answer.Check.{Check}
+use Rattle.polygon.specs.declared.answer.Check.the-variants.{Passed, Failed}
+use Rattle.polygon.specs.Checks.{_then_}
+
+abbrev pub failsHere : ℕ → ℕ → Bool → Check
+failsHere number place bad = cond bad (Failed number place) Passed
+
+-- ---- one field: a tag, two bytes of length, the body
+
+-- A length from `least` to `most`, in whole steps.
+unfoldable pub isAllowed : ℕ → ℕ → ℕ → ℕ → Bool
+isAllowed least most step n = leb least n && (leb n most && eqb (n % step) 0)
+
+-- The first byte after the field that begins at `at`.
+unfoldable pub fieldEnd : List ℕ → ℕ → ℕ
+fieldEnd b at = at + 3 + shortAt b (at + 1)
+
+-- The field with the given tag and lengths, at `at`: its three head bytes, its tag, its length, its body.
+unfoldable pub fieldCheck : ℕ → (ℕ → Bool) → List ℕ → ℕ → Check
+fieldCheck tag isLength b at =
+    failsHere 20 at (ltb (length b) (at + 3))
+    then failsHere 21 at (not (eqb (byteAt b at) tag))
+    then failsHere 22 at (not (isLength (shortAt b (at + 1))))
+    then failsHere 20 at (ltb (length b) (fieldEnd b at))
+
+-- ---- where the fields begin. Those with tags 1, 2 and 4 have one length.
+
+abbrev pub charsetStart : ℕ
+charsetStart = 7
+
+abbrev pub nameStart : ℕ
+nameStart = 11
+
+abbrev pub knownStart : List ℕ → ℕ
+knownStart b = fieldEnd b nameStart
+
+abbrev pub verticesStart : List ℕ → ℕ
+verticesStart b = knownStart b + 15
+
+abbrev pub sheetEnd : List ℕ → ℕ
+sheetEnd b = fieldEnd b (verticesStart b)
+
+-- ---- the five fields, in order
+
+abbrev pub zoneCheck : List ℕ → Check
+zoneCheck b = fieldCheck 1 (isAllowed 4 4 1) b 0
+
+-- 1 UTF-8, 2 ISO 8859-7, 3 windows-1253.
+unfoldable pub isCharset : ℕ → Bool
+isCharset n = leb 1 n && leb n 3
+
+unfoldable pub charsetCheck : List ℕ → Check
+charsetCheck b =
+    fieldCheck 2 (isAllowed 1 1 1) b charsetStart
+    then failsHere 23 charsetStart (not (isCharset (byteAt b (charsetStart + 3))))
+
+abbrev pub isNameLength : ℕ → Bool
+isNameLength = isAllowed 1 120 1
+
+abbrev pub nameCheck : List ℕ → Check
+nameCheck b = fieldCheck 3 isNameLength b nameStart
+
+abbrev pub knownCheck : List ℕ → Check
+knownCheck b = fieldCheck 4 (isAllowed 12 12 1) b (knownStart b)
+
+abbrev pub verticesCheck : List ℕ → Check
+verticesCheck b = fieldCheck 5 (isAllowed 36 49152 12) b (verticesStart b)
+
+-- The fields alone: bytes may follow.
+unfoldable pub sheetFields : List ℕ → Check
+sheetFields b = zoneCheck b then charsetCheck b then nameCheck b then knownCheck b then verticesCheck b
+
+unfoldable pub restCheck : List ℕ → Check
+restCheck b = failsHere 24 (sheetEnd b) (ltb (sheetEnd b) (length b))
+
+unfoldable pub fieldsCheck : List ℕ → Check
+fieldsCheck b = sheetFields b then restCheck b

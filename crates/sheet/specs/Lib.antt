@@ -1,0 +1,5 @@
+pub mod Fields
+pub mod Sheet
+pub mod Judge
+pub mod Write
+pub mod Claims

@@ -1,0 +1,135 @@
+// The fields of a sheet, by bytes alone: refusals 20 to 24 with their places.
+// Here, in order: is_allowed, field_check (one field), is_charset, charset_check, known_start, sheet_fields (20 to
+// 23), vertices_start, sheet_end, fields_check (20 to 24). A later field is looked at only where those before it have
+// passed. Assumes nothing.
+ghost use mathlib.Core.Path.{_≡_};
+ghost use Prim.Native.Nat.{_+_, _≤_, _<_};
+ghost use lib.ListN.{length};
+ghost use Rattle.polygon.specs.declared.answer.Check.the-variants.{Passed};
+ghost use Rattle.sheet.specs.Fields.{isAllowed, fieldCheck, knownStart, verticesStart, sheetEnd, isCharset};
+ghost use Rattle.sheet.specs.Fields.{charsetCheck, sheetFields, fieldsCheck};
+use big_endian::read;
+use polygon::answer::Check;
+
+// Where the fields begin that always begin at one place.
+pub const CHARSET_START: usize = 7;
+
+pub const NAME_START: usize = 11;
+
+// A length from `least` to `most`, in whole steps.
+pub fn is_allowed(n: usize, least: usize, most: usize, step: usize) -> bool
+    requires { ⌜ 0 < step ⌝ }
+    ensures { λ r. ⌜ r ≡ isAllowed least most step n ⌝ }
+{
+    if n < least {
+        return false;
+    }
+    if most < n {
+        return false;
+    }
+    n % step == 0
+}
+
+// One field: its head, its tag, its length and its body, in this order.
+fn field_check(b: &[u8], at: usize, tag: u8, least: usize, most: usize, step: usize) -> Check
+    requires { ⌜ (at ≤ length (now b)) × (0 < step) ⌝ }
+    ensures { λ r. ⌜ r ≡ fieldCheck tag (isAllowed least most step) (now (b .entry)) at ⌝ }
+{
+    if b.len() - at < 3 {
+        return Check::Failed(20, at);
+    }
+    if b[at] != tag {
+        return Check::Failed(21, at);
+    }
+    let n = read::short_at(b, at + 1) as usize;
+    if !is_allowed(n, least, most, step) {
+        return Check::Failed(22, at);
+    }
+    if b.len() - at - 3 < n {
+        return Check::Failed(20, at);
+    }
+    Check::Passed
+}
+
+// Document 01: 1 UTF-8, 2 ISO 8859-7, 3 windows-1253.
+pub fn is_charset(n: u32) -> bool
+    ensures { λ r. ⌜ r ≡ isCharset n ⌝ }
+{
+    if n < 1 {
+        return false;
+    }
+    n <= 3
+}
+
+// The one field whose body is looked at here.
+fn charset_check(b: &[u8]) -> Check
+    requires { ⌜ 7 ≤ length (now b) ⌝ }
+    ensures { λ r. ⌜ r ≡ charsetCheck (now (b .entry)) ⌝ }
+{
+    if let Check::Failed(number, place) = field_check(b, CHARSET_START, 2, 1, 1, 1) {
+        return Check::Failed(number, place);
+    }
+    if !is_charset(read::byte_at(b, CHARSET_START + 3)) {
+        return Check::Failed(23, CHARSET_START);
+    }
+    Check::Passed
+}
+
+// Where the known point's field begins.
+pub fn known_start(b: &[u8]) -> usize
+    requires { ⌜ 14 ≤ length (now b) ⌝ }
+    ensures { λ r. ⌜ r ≡ knownStart (now (b .entry)) ⌝ }
+{
+    NAME_START + 3 + read::short_at(b, NAME_START + 1) as usize
+}
+
+// The five fields, in order. Bytes may follow.
+pub fn sheet_fields(b: &[u8]) -> Check
+    ensures { λ r. ⌜ r ≡ sheetFields (now (b .entry)) ⌝ }
+{
+    if let Check::Failed(number, place) = field_check(b, 0, 1, 4, 4, 1) {
+        return Check::Failed(number, place);
+    }
+    if let Check::Failed(number, place) = charset_check(b) {
+        return Check::Failed(number, place);
+    }
+    if let Check::Failed(number, place) = field_check(b, NAME_START, 3, 1, 120, 1) {
+        return Check::Failed(number, place);
+    }
+    let known = known_start(b);
+    if let Check::Failed(number, place) = field_check(b, known, 4, 12, 12, 1) {
+        return Check::Failed(number, place);
+    }
+    field_check(b, known + 15, 5, 36, 49152, 12)
+}
+
+// Where the field of the vertices begins.
+pub fn vertices_start(b: &[u8]) -> usize
+    requires { ⌜ sheetFields (now b) ≡ Passed ⌝ }
+    ensures { λ r. ⌜ (r ≡ verticesStart (now (b .entry))) × (r + 39 ≤ length (now (b .entry))) ⌝ }
+{
+    known_start(b) + 15
+}
+
+// Where a sheet ends whose fields are sound.
+pub fn sheet_end(b: &[u8]) -> usize
+    requires { ⌜ sheetFields (now b) ≡ Passed ⌝ }
+    ensures { λ r. ⌜ (r ≡ sheetEnd (now (b .entry))) × (r ≤ length (now (b .entry))) ⌝ }
+{
+    let at = vertices_start(b);
+    at + 3 + read::short_at(b, at + 1) as usize
+}
+
+// The five fields, and nothing after them.
+pub fn fields_check(b: &[u8]) -> Check
+    ensures { λ r. ⌜ r ≡ fieldsCheck (now (b .entry)) ⌝ }
+{
+    if let Check::Failed(number, place) = sheet_fields(b) {
+        return Check::Failed(number, place);
+    }
+    let end = sheet_end(b);
+    if end < b.len() {
+        return Check::Failed(24, end);
+    }
+    Check::Passed
+}

@@ -1,0 +1,58 @@
+// Writing a sheet, from any input into any buffer.
+// Here, in order: input_check (23, 22, 10 to 16), needed_for, write (25 too). Assumes nothing.
+ghost use mathlib.Core.Path.{_≡_};
+ghost use Prim.Native.Nat.{_≤_};
+ghost use lib.ListN.{length};
+ghost use Rattle.sheet.specs.Write.{neededFor, inputCheck, writeOf, writtenTo};
+use crate::fields;
+use crate::store;
+use polygon::answer::Answer;
+use polygon::answer::Check;
+use polygon::checks;
+use sphere::point::Point;
+
+fn input_check(charset: u32, name: &[u8], known: Point, vertices: &[i32]) -> Check
+    ensures { λ r. ⌜ r ≡ inputCheck charset (now (name .entry)) known (now (vertices .entry)) ⌝ }
+{
+    if !fields::is_charset(charset) {
+        return Check::Failed(23, 0);
+    }
+    if !fields::is_allowed(name.len(), 1, 120, 1) {
+        return Check::Failed(22, 0);
+    }
+    checks::accept_check(vertices, known)
+}
+
+// The bytes that a sheet takes.
+fn needed_for(name: &[u8], vertices: &[i32]) -> usize
+    requires { ⌜ (length (now name) ≤ 120) × (length (now vertices) ≤ 12288) ⌝ }
+    ensures { λ r. ⌜ r ≡ neededFor (now (name .entry)) (now (vertices .entry)) ⌝ }
+{
+    32 + name.len() + vertices.len() * 4
+}
+
+// Writes a sheet into the first bytes of the buffer. A refusal changes none.
+pub fn write(
+    zone: u32,
+    charset: u32,
+    name: &[u8],
+    known: Point,
+    vertices: &[i32],
+    buffer: &mut [u8],
+) -> Answer
+    ensures { λ r.
+        ⌜ r ≡ writeOf charset (now (name .entry)) known (now (vertices .entry)) (length (now (buffer .entry))) ⌝ }
+    ensures { λ _.
+        ⌜ now (buffer .exit)
+        ≡ writtenTo zone charset (now (name .entry)) known (now (vertices .entry)) (now (buffer .entry)) ⌝ }
+{
+    if let Check::Failed(number, place) = input_check(charset, name, known, vertices) {
+        return Answer::Refused(number, place);
+    }
+    let needed = needed_for(name, vertices);
+    if buffer.len() < needed {
+        return Answer::Refused(25, needed);
+    }
+    store::put_sheet(buffer, zone, charset, name, known, vertices);
+    Answer::Done(needed)
+}

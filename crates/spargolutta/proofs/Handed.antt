@@ -1,0 +1,17 @@
+-- A number of C's that is handed on is the same number. Proved: handed. Assumes nothing.
+use mathlib.Core.Path.{_≡_}
+use mathlib.Core.List.{List}
+use Prim.Native.Nat.{ℕ}
+use lib.IntN.{ℤ}
+use mir.Syntax.{w32}
+use mir.Val.{SFits, toZ, ofZ}
+use mir.ValLaws.{toZ-ofZ}
+use Rattle.sheet.specs.Judge.{sheetAnswerOf}
+use Rattle.spargolutta.specs.Query.{queryOf}
+
+abbrev local : ℤ → ℤ
+local k = toZ w32 (ofZ w32 k)
+
+pub handed : (b : List ℕ) (x y z : ℤ) → SFits w32 x → SFits w32 y → SFits w32 z →
+    sheetAnswerOf b (queryOf (local x) (local y) (local z)) ≡ sheetAnswerOf b (queryOf x y z)
+handed b x y z hx hy hz = λ i. sheetAnswerOf b (queryOf (toZ-ofZ w32 x hx i) (toZ-ofZ w32 y hy i) (toZ-ofZ w32 z hz i))

@@ -1,0 +1,49 @@
+// The C boundary: functions over a sheet's bytes and a query's three numbers, each returning one number.
+// Declared for C in include/spargolutta.h; nothing checks that declaration against this source. Nothing is written, and
+// nothing is kept between calls. Assumes nothing.
+ghost use mathlib.Core.Path.{_≡_};
+ghost use Rattle.polygon.specs.Answer.{numberOf, placeOf, countOf};
+ghost use Rattle.sheet.specs.Judge.{sheetAnswerOf};
+ghost use Rattle.spargolutta.specs.Query.{queryOf};
+use polygon::answer::Answer;
+use polygon::answer::count;
+use polygon::answer::number;
+use polygon::answer::place;
+use polygon::vertices::wide;
+use sheet::judge::judge;
+use sphere::point::Point;
+
+// The whole answer. Each exported function hands out one number of it.
+fn answer(sheet: &[u8], x: i32, y: i32, z: i32) -> Answer
+    ensures { λ r. ⌜ r ≡ sheetAnswerOf (now (sheet .entry)) (queryOf x y z) ⌝ }
+{
+    judge(
+        sheet,
+        Point {
+            x: wide(x),
+            y: wide(y),
+            z: wide(z),
+        },
+    )
+}
+
+#[no_mangle]
+pub extern "C" fn spg_judge_number(sheet: &[u8], x: i32, y: i32, z: i32) -> u32
+    ensures { λ r. ⌜ r ≡ numberOf (sheetAnswerOf (now (sheet .entry)) (queryOf x y z)) ⌝ }
+{
+    number(answer(sheet, x, y, z))
+}
+
+#[no_mangle]
+pub extern "C" fn spg_judge_place(sheet: &[u8], x: i32, y: i32, z: i32) -> usize
+    ensures { λ r. ⌜ r ≡ placeOf (sheetAnswerOf (now (sheet .entry)) (queryOf x y z)) ⌝ }
+{
+    place(answer(sheet, x, y, z))
+}
+
+#[no_mangle]
+pub extern "C" fn spg_judge_count(sheet: &[u8], x: i32, y: i32, z: i32) -> u32
+    ensures { λ r. ⌜ r ≡ countOf (sheetAnswerOf (now (sheet .entry)) (queryOf x y z)) ⌝ }
+{
+    count(answer(sheet, x, y, z))
+}

@@ -1,0 +1,62 @@
+-- `judging::judge_pieces` meets its contract: the buffers keep their lengths, and each turn answers a query. Assumes
+-- nothing.
+use mathlib.Core.Path.{_≡_, sym}
+use Prim.Native.Nat.{ℕ, _-_}
+use borrow.Author.Needs.{needs}
+use lib.ListN.{length, length-replicate}
+use lib.Seq.{length-take-le}
+use Rattle.zone_judge.proofs.judging.judge_pieces.Statement.{statement}
+use Rattle.zone_judge.proofs.judging.judge_pieces.Tie as tie
+
+abbrev Inv-loop : tie.InvT-loop
+Inv-loop vertices n known polygon piece₀ out₀ done₀ piece out done = (length piece ≡ 49152) × (length out ≡ 258048)
+
+abbrev μ-loop : tie.MeasureT-loop
+μ-loop vertices n known polygon piece₀ out₀ done₀ piece out done = 18000000000000000000 - done
+
+slice-aggregate-polygon : tie.Need-slice-aggregate-polygon Inv-loop μ-loop
+slice-aggregate-polygon c = sym (length-take-le _ _ (c .before .pre))
+
+loop-holds : tie.Need-loop-holds Inv-loop μ-loop
+loop-holds c = (length-replicate {A = ℕ} 49152 0, length-replicate {A = ℕ} 258048 0)
+
+slice-aggregate-judge-piece : tie.Need-slice-aggregate-judge-piece Inv-loop μ-loop
+slice-aggregate-judge-piece c = search needs
+
+slice-aggregate-judge-piece-2 : tie.Need-slice-aggregate-judge-piece-2 Inv-loop μ-loop
+slice-aggregate-judge-piece-2 c = search needs
+
+judge-piece-requires : tie.Need-judge-piece-requires Inv-loop μ-loop
+judge-piece-requires c κs = search needs
+
+returns : tie.Need-returns Inv-loop μ-loop
+returns c = search needs
+
+add-done : tie.Need-add-done Inv-loop μ-loop
+add-done c = search needs
+
+loop-less : tie.Need-loop-less Inv-loop μ-loop
+loop-less c = search needs
+
+loop-again : tie.Need-loop-again Inv-loop μ-loop
+loop-again c = search needs
+
+returns-2 : tie.Need-returns-2 Inv-loop μ-loop
+returns-2 c = search needs
+
+pub judge-pieces-spec : {M : Type 1} → statement M
+judge-pieces-spec =
+    tie.close
+    (tie.spec
+    Inv-loop
+    μ-loop
+    slice-aggregate-polygon
+    loop-holds
+    slice-aggregate-judge-piece
+    slice-aggregate-judge-piece-2
+    judge-piece-requires
+    returns
+    add-done
+    loop-less
+    loop-again
+    returns-2)

@@ -1,0 +1,66 @@
+// Lines of output, put into a buffer: number, place and count, parted by single spaces.
+// Here, in order: LONGEST, digit_count, put_number, put_line, put_answer, print. Assumes what `libc` states of C's
+// calls, and nothing else.
+ghost use Prim.Native.Nat.{_+_, _≤_};
+ghost use lib.ListN.{length};
+use libc::STDOUT_FILENO;
+use polygon::answer;
+use polygon::answer::Answer;
+
+// The bytes of the longest line: three numbers of at most 20 digits, two spaces and the end of the line.
+pub(crate) const LONGEST: usize = 63;
+
+fn digit_count(n: u64) -> usize
+    ensures { λ r. ⌜ r ≤ 20 ⌝ }
+{
+    let mut k = 1;
+    let mut rest = n / 10;
+    while rest > 0 {
+        rest /= 10;
+        k += 1;
+    }
+    k
+}
+
+// Puts n's decimal digits and the byte after them from `at` on. Where they end.
+fn put_number(n: u64, after: u8, out: &mut [u8], at: usize) -> usize
+    requires { ⌜ at + 21 ≤ length (now out) ⌝ }
+    ensures { λ r. ⌜ r ≤ at + 21 ⌝ }
+{
+    let end = at + digit_count(n);
+    let mut i = end;
+    let mut rest = n;
+    while i > at {
+        i -= 1;
+        out[i] = b'0' + (rest % 10) as u8;
+        rest /= 10;
+    }
+    out[end] = after;
+    end + 1
+}
+
+// Puts a line from `at` on. Where it ends.
+pub(crate) fn put_line(number: u32, place: u64, count: u32, out: &mut [u8], at: usize) -> usize
+    requires { ⌜ at + 63 ≤ length (now out) ⌝ }
+    ensures { λ r. ⌜ r ≤ at + 63 ⌝ }
+{
+    let place_at = put_number(number as u64, b' ', out, at);
+    let count_at = put_number(place, b' ', out, place_at);
+    put_number(count as u64, b'\n', out, count_at)
+}
+
+pub(crate) fn put_answer(given: Answer, out: &mut [u8], at: usize) -> usize
+    requires { ⌜ at + 63 ≤ length (now out) ⌝ }
+    ensures { λ r. ⌜ r ≤ at + 63 ⌝ }
+{
+    let number = answer::number(given);
+    let place = answer::place(given);
+    put_line(number, place as u64, answer::count(given), out, at)
+}
+
+// Writes the first bytes of `out` to standard output. Whether all were written.
+pub(crate) fn print(out: &[u8], end: usize) -> bool
+    requires { ⌜ end ≤ length (now out) ⌝ }
+{
+    io::write_all(STDOUT_FILENO, &out[..end])
+}

@@ -1,0 +1,34 @@
+// Document 01's program: reads the file `zone.sheet` in the current folder and queries of 12 bytes from standard
+// input, and prints one line for each query: number, place, count.
+//
+// A refused sheet gives one line, its number, place and 0, and nothing else. A file that is missing or cannot be
+// read counts as an empty sheet. A cut query at the end gives 20, the number of whole queries before it, and 0.
+// Reading, judging and writing lie apart, in `input`, `judging` and `lines`. Proved: each function is safe and ends.
+// What the library answers is proved in `sheet` and `polygon`. Assumes what `libc` and `os` state of C's calls, and
+// nothing else.
+mod input;
+mod judging;
+mod lines;
+
+use polygon::answer;
+use polygon::answer::Answer;
+
+// The whole output of a refused sheet.
+fn print_refusal(refusal: Answer) {
+    let mut line = [0u8; lines::LONGEST];
+    let end = lines::put_answer(refusal, &mut line, 0);
+    lines::print(&line, end);
+}
+
+fn main() {
+    let mut bytes = [0u8; input::SHEET_MOST];
+    let size = input::read_sheet(&mut bytes);
+    let mut vertices = [0i32; 12288];
+    let zone = sheet::read::load(&bytes[..size], &mut vertices);
+    let outcome = zone.answer;
+    if answer::number(outcome) != 0 {
+        print_refusal(outcome);
+        return;
+    }
+    judging::judge_all(&vertices, zone.vertex_count * 3, zone.known);
+}

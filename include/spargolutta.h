@@ -1,0 +1,112 @@
+/*
+ * spargolutta.h: does a point lie inside, outside or on the boundary of a polygon on the sphere?
+ *
+ * The polygon comes as a zone sheet (bytes) and the query as three whole numbers. Three calls take the same arguments
+ * and each fetches one part of the same answer: its number, its place, its count. All work is in whole numbers, so no
+ * answer depends on rounding.
+ *
+ *     cc client.c $(pkg-config --cflags --libs spargolutta)
+ *
+ * The calls are written in Rattle (crate spargolutta, functions of the same names) and proved to give the answers of
+ * the table below for all bytes and all queries. Nothing checks the declarations of this file against that source.
+ *
+ * A point is a direction from the centre: x, y, z, each from -1,048,576 to 1,048,576 (the grid), not all zero. Side i
+ * (edge i) is the shorter arc from vertex i to the next one, the last side goes back to vertex 0. The known point
+ * (reference point) is inside by the sheet's own claim. All numbering starts at 0.
+ *
+ * A zone sheet has 69 to 49,304 bytes: five fields in this order, each a one-byte tag, a two-byte length and a body.
+ * All numbers are big-endian, coordinates are signed 32-bit.
+ *
+ *     tag  body                                                       length
+ *     1    zone number, unsigned                                      4
+ *     2    character set: 1 UTF-8, 2 ISO 8859-7, 3 windows-1253       1
+ *     3    name, as received                                          1 to 120
+ *     4    known point x, y, z                                        12
+ *     5    vertices x, y, z                                           12 each: 36 to 49,152 (3 to 4,096 vertices)
+ */
+#ifndef SPARGOLUTTA_H
+#define SPARGOLUTTA_H
+
+#include <stddef.h>
+#include <stdint.h>
+
+#ifdef __cplusplus
+extern "C" {
+#endif
+
+/*
+ * The numbers. Place and count are 0 where the table names none.
+ *
+ * A sheet is checked field by field: three head bytes present (20), tag (21), length (22), body present (20), character
+ * set (23). Then come 24 and 11 to 16, each over the whole list before the next; then the query's 17 and 18. The first
+ * that holds is given. 10 is listed for completeness: in a sheet 22 comes before it, so these calls never give it. Nor
+ * do they give 0 and 25, which are of reading and writing a sheet.
+ */
+enum spg_number {
+                                /* meaning                                             place / count                  */
+    SPG_INSIDE = 1,             /* inside                                              count: sides crossed           */
+    SPG_OUTSIDE = 2,            /* outside                                             count: sides crossed           */
+    SPG_BOUNDARY = 3,           /* on a side                                           place: lowest such side        */
+    SPG_BAD_LIST = 10,          /* not whole threes, or under 3 or over 4,096 vertices                                */
+    SPG_VERTEX_OFF_GRID = 11,   /* a vertex has a number beyond the grid               place: lowest such vertex      */
+    SPG_VERTEX_ZERO = 12,       /* a vertex is all zero                                place: lowest such vertex      */
+    SPG_SIDE_SAME = 13,         /* a side's ends have the same direction               place: lowest such side        */
+    SPG_SIDE_OPPOSITE = 14,     /* a side's ends are opposite                          place: lowest such side        */
+    SPG_KNOWN_OFF_GRID = 15,    /* the known point is beyond the grid or all zero                                     */
+    SPG_KNOWN_ON_CIRCLE = 16,   /* the known point is on the great circle of a side    place: lowest such side        */
+    SPG_QUERY_OFF_GRID = 17,    /* the query is beyond the grid or all zero                                           */
+    SPG_QUERY_OPPOSITE = 18,    /* the query is opposite the known point                                              */
+    SPG_SHEET_CUT = 20,         /* the sheet is cut short                              place: where the field begins  */
+    SPG_SHEET_TAG = 21,         /* wrong tag                                           place: where the field begins  */
+    SPG_SHEET_LENGTH = 22,      /* length not allowed                                  place: where the field begins  */
+    SPG_SHEET_CHARSET = 23,     /* unknown character set                               place: where the field begins  */
+    SPG_SHEET_TRAILING = 24     /* bytes after the last field                          place: first such byte         */
+};
+
+/*
+ * spg_judge_number, spg_judge_place, spg_judge_count: the answer to one query, from one sheet.
+ *
+ * sheet, sheet_len  The sheet's bytes. Any bytes and any length will do: a bad sheet gets its refusal, an empty one
+ *                   number 20, place 0. Not NULL, even where sheet_len is 0. Only these bytes are read.
+ * x, y, z           The query. Any numbers will do: off the grid they give 17. As 17 comes after every check of the
+ *                   sheet, the query 0, 0, 0 asks about the sheet alone: 17 says that it is good.
+ * Result            A number of the table, its place, its count. With equal arguments the three belong together.
+ *
+ * Nothing is written: not to the sheet, not anywhere else. The calls keep no state, allocate nothing and always return.
+ * Any number of threads may call at once, on the same sheet too. Each call checks the whole sheet and works out the
+ * whole answer, in time that grows with the number of vertices, and needs less than 64 KiB of stack.
+ */
+uint32_t spg_judge_number(const uint8_t *sheet, size_t sheet_len, int32_t x, int32_t y, int32_t z);
+size_t spg_judge_place(const uint8_t *sheet, size_t sheet_len, int32_t x, int32_t y, int32_t z);
+uint32_t spg_judge_count(const uint8_t *sheet, size_t sheet_len, int32_t x, int32_t y, int32_t z);
+
+/* A short English text for a number of the table, for logs; for any other, "unknown number". Never NULL. */
+static inline const char *spg_meaning(uint32_t number)
+{
+    switch (number) {
+    case SPG_INSIDE: return "inside";
+    case SPG_OUTSIDE: return "outside";
+    case SPG_BOUNDARY: return "boundary";
+    case SPG_BAD_LIST: return "vertex list of a length not allowed";
+    case SPG_VERTEX_OFF_GRID: return "vertex beyond the grid";
+    case SPG_VERTEX_ZERO: return "vertex all zero";
+    case SPG_SIDE_SAME: return "side's ends in the same direction";
+    case SPG_SIDE_OPPOSITE: return "side's ends opposite";
+    case SPG_KNOWN_OFF_GRID: return "known point beyond the grid or all zero";
+    case SPG_KNOWN_ON_CIRCLE: return "known point on the great circle of a side";
+    case SPG_QUERY_OFF_GRID: return "query beyond the grid or all zero";
+    case SPG_QUERY_OPPOSITE: return "query opposite the known point";
+    case SPG_SHEET_CUT: return "sheet cut short";
+    case SPG_SHEET_TAG: return "wrong tag in the sheet";
+    case SPG_SHEET_LENGTH: return "length not allowed in the sheet";
+    case SPG_SHEET_CHARSET: return "unknown character set";
+    case SPG_SHEET_TRAILING: return "bytes after the last field";
+    default: return "unknown number";
+    }
+}
+
+#ifdef __cplusplus
+}
+#endif
+
+#endif

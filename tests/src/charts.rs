@@ -1,0 +1,101 @@
+//! Document 01's charts, with the answers typed from its tables: the library and the reference both
+//! have to give them.
+
+use crate::sheet::{octant, Sheet, OCTANT};
+use crate::{library, reference, Answer, Point};
+
+struct Chart {
+    case: &'static str,
+    vertices: Vec<Point>,
+    known: Point,
+    query: Point,
+    /// Number, place, count.
+    answer: (u32, usize, u32),
+}
+
+fn chart(
+    case: &'static str,
+    vertices: &[Point],
+    known: Point,
+    query: Point,
+    answer: (u32, usize, u32),
+) -> Chart {
+    Chart { case, vertices: vertices.to_vec(), known, query, answer }
+}
+
+fn all_give(charts: &[Chart]) {
+    for Chart { case, vertices, known, query, answer: (number, place, count) } in charts {
+        let expected = Answer { number: *number, place: *place, count: *count };
+        let sheet = Sheet::new(*known, vertices).bytes();
+        assert_eq!(reference::judge(&sheet, *query), expected, "{case}: reference");
+        assert_eq!(library::judge(&sheet, *query), expected, "{case}: library");
+    }
+    println!("charts: {} compared", charts.len());
+}
+
+#[test]
+fn k1_to_k14() {
+    let same = [[1, 0, 0], [2, 0, 0], [0, 0, 1]];
+    let corner = [[-4, -2, 1], [0, 0, 1], [4, -2, 1], [0, 5, 1]];
+    let below = [[1, 0, 0], [0, 0, -1], [0, 1, 0]];
+    all_give(&[
+        chart("K1", &OCTANT, [1, 1, 1], [1, 1, 1], (1, 0, 0)),
+        chart("K2", &OCTANT, [1, 1, 1], [3, 2, 1], (1, 0, 0)),
+        chart("K3", &OCTANT, [1, 1, 1], [1, 1, 0], (3, 0, 0)),
+        chart("K4", &OCTANT, [1, 1, 1], [1, 0, 0], (3, 0, 0)),
+        chart("K5", &OCTANT, [1, 1, 1], [1, 1, -1], (2, 0, 1)),
+        chart("K6", &OCTANT, [1, 1, 1], [-1, -1, 1], (2, 0, 1)),
+        chart("K7", &OCTANT, [1, 1, 1], [-1, 1, 0], (2, 0, 1)),
+        chart("K8", &OCTANT, [1, 1, 1], [-1, -1, -1], (18, 0, 0)),
+        chart("K9", &OCTANT, [1, -1, 0], [1, 1, 1], (16, 0, 0)),
+        chart("K10", &same, [1, 1, 1], [1, 1, 1], (13, 0, 0)),
+        chart("K11", &OCTANT, [3, 2, 1], [-1, -1, 1], (2, 0, 1)),
+        chart("K12", &OCTANT, [1, 1, -1], [3, 2, 1], (2, 0, 1)),
+        chart("K13", &corner, [-2, 0, 1], [2, 0, 1], (1, 0, 2)),
+        chart("K14", &below, [1, 1, -1], [0, 0, 1], (2, 0, 1)),
+    ]);
+}
+
+/// Document 01's 'run only' charts that are not about the program.
+#[test]
+fn run_only() {
+    const MOST: i32 = 1_048_576;
+    let past = [[1, 0, 2], [0, 1, 1], [-1, 0, 2]];
+    let large = [[MOST, 0, 0], [0, MOST, 0], [0, 0, MOST]];
+    let least = [[MOST, -MOST, 0], [0, MOST, -MOST], [MOST, MOST, MOST]];
+    let beyond = [[1, 0, 0], [0, MOST + 1, 0], [0, 0, 1]];
+    let under = [[1, 0, 0], [0, 1, 0], [0, 0, -MOST - 1]];
+    all_give(&[
+        chart("after 003", &past, [0, 1, 3], [0, 0, 1], (3, 2, 0)),
+        chart("vertices at the limit", &large, [1, 1, 1], [1, 1, 1], (1, 0, 0)),
+        chart("vertices at both limits", &least, [1, 0, 0], [0, 0, 0], (17, 0, 0)),
+        chart("known point at the limit", &OCTANT, [MOST; 3], [1, 1, 1], (1, 0, 0)),
+        chart("query at the limit", &OCTANT, [1, 1, 1], [MOST; 3], (1, 0, 0)),
+        chart("query at the lower limit", &OCTANT, [1, 1, 1], [-MOST; 3], (18, 0, 0)),
+        chart("vertex beyond", &beyond, [1, 1, 1], [1, 1, 1], (11, 1, 0)),
+        chart("vertex beyond below", &under, [1, 1, 1], [1, 1, 1], (11, 2, 0)),
+        chart("known point beyond", &OCTANT, [1, 1, MOST + 1], [1, 1, 1], (15, 0, 0)),
+        chart("query beyond", &OCTANT, [1, 1, 1], [1, MOST + 1, 1], (17, 0, 0)),
+        chart("query at the least i32", &OCTANT, [1, 1, 1], [i32::MIN, 1, 1], (17, 0, 0)),
+        // Two vertices are 24 bytes and 4,097 are 49,164: lengths that no field 5 may have.
+        chart("2 vertices", &OCTANT[..2], [1, 1, 1], [1, 1, 1], (22, 30, 0)),
+        chart("3 vertices", &OCTANT, [1, 1, 1], [1, 1, 1], (1, 0, 0)),
+        chart("4,096 vertices", &fan(4096), [1, 1, 4], [1, 1, 4], (1, 0, 0)),
+        chart("4,097 vertices", &fan(4097), [1, 1, 4], [1, 1, 4], (22, 30, 0)),
+    ]);
+}
+
+/// n vertices, no two neighbours of one direction, none opposite: (1,0,0) and (0,1,0) in turn, and
+/// (0,0,1) last. Its sides all lie on the coordinate planes.
+fn fan(n: usize) -> Vec<Point> {
+    let mut vertices: Vec<Point> = (0..n).map(|i| OCTANT[i % 2]).collect();
+    vertices[n - 1] = OCTANT[2];
+    vertices
+}
+
+#[test]
+fn octant_sheet() {
+    let bytes = octant().bytes();
+    assert_eq!(bytes.len(), 69);
+    assert_eq!(&bytes[..18], b"\x01\0\x04\0\0\0\x07\x02\0\x01\x01\x03\0\x01A\x04\0\x0c");
+}

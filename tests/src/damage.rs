@@ -1,0 +1,102 @@
+//! Damaged and cut sheets, compared with the reference.
+
+use crate::compare::Tally;
+use crate::random::Random;
+use crate::sheet::{field, octant, Sheet};
+use crate::Point;
+
+type Case = (Vec<u8>, Point);
+
+const K2: Point = [3, 2, 1];
+
+/// Every beginning of the octant's sheet, and every value of every byte of it: alone, with the last
+/// byte gone, and with a byte too many.
+fn octant_everywhere() -> Vec<Case> {
+    let whole = octant().bytes();
+    let mut cases: Vec<Case> = (0..whole.len()).map(|end| (whole[..end].to_vec(), K2)).collect();
+    for at in 0..whole.len() {
+        for value in 0..=255 {
+            let mut sheet = whole.clone();
+            sheet[at] = value;
+            cases.push((sheet.clone(), K2));
+            cases.push((sheet[..whole.len() - 1].to_vec(), K2));
+            cases.push(([sheet, vec![value]].concat(), K2));
+        }
+    }
+    cases
+}
+
+/// Each field with every length near what is allowed, whole and cut around its head and its end.
+fn field_lengths() -> Vec<Case> {
+    let near = |k: usize| [k.wrapping_sub(1), k, k + 1].into_iter().filter(|&k| k < 65_536);
+    let limits = [0, 4, 12, 24, 36, 48, 120, 256, 49_140, 49_152, 49_164, 65_535];
+    let mut cases = vec![];
+    for which in 0..5 {
+        for length in limits.into_iter().flat_map(near) {
+            let mut fields = octant().fields();
+            let body: Vec<u8> = fields[which][3..].iter().copied().cycle().take(length).collect();
+            fields[which] = field(which as u8 + 1, &body);
+            let sheet = fields.concat();
+            let begins: usize = fields[..which].iter().map(Vec::len).sum();
+            for end in [begins + 2, begins + 3, begins + 2 + length, begins + 3 + length, sheet.len()] {
+                cases.push((sheet[..end].to_vec(), K2));
+            }
+        }
+    }
+    cases
+}
+
+/// A good sheet whose parts have many lengths.
+fn any_sheet(random: &mut Random) -> Sheet {
+    let mut sheet = octant();
+    sheet.zone = random.bits() as u32;
+    sheet.charset = random.between(1, 3) as u8;
+    let length = random.pick(&[1, 2, 3, 12, 119, 120]);
+    sheet.name = (0..length).map(|_| random.bits() as u8).collect();
+    sheet
+}
+
+/// Several damages at once, so that the order of the refusals shows: fields exchanged, left out or
+/// doubled, bytes changed, the end cut or bytes added.
+fn damaged_together(count: usize) -> Vec<Case> {
+    let random = &mut Random::new(20);
+    let mut cases = vec![];
+    for _ in 0..count {
+        let mut fields = any_sheet(random).fields().to_vec();
+        for _ in 0..random.below(3) {
+            let (i, j) = (random.below(fields.len()), random.below(fields.len()));
+            match random.below(4) {
+                0 => fields.swap(i, j),
+                1 => drop(fields.remove(i)),
+                2 => fields.insert(i, fields[j].clone()),
+                _ => {
+                    let k = random.below(fields[i].len().min(4));
+                    fields[i][k] = random.pick(&[0, 1, 2, 3, 4, 5, 12, 36, 121, 255]);
+                }
+            }
+        }
+        let mut sheet = fields.concat();
+        match random.below(4) {
+            0 => sheet.truncate(random.below(sheet.len() + 1)),
+            1 => sheet.extend((0..1 + random.below(20)).map(|k| k as u8)),
+            _ => {}
+        }
+        cases.push((sheet, random.point(2)));
+    }
+    cases
+}
+
+/// What the C client is run on.
+pub fn all_cases() -> Vec<Case> {
+    [octant_everywhere(), field_lengths(), damaged_together(20_000)].concat()
+}
+
+#[test]
+fn damaged_sheets() {
+    let mut tally = Tally::default();
+    for (sheet, query) in [octant_everywhere(), field_lengths(), damaged_together(100_000)].concat() {
+        tally.compare(&sheet, query);
+    }
+    let numbers = [1, 2, 3, 11, 12, 13, 15, 16, 17, 18, 20, 21, 22, 23, 24];
+    tally.report("damaged sheets", 150_000, numbers);
+}

@@ -1,0 +1,37 @@
+//! Host tests: the archive and the program against a second, independent reading of document 01.
+//!
+//! `reference` is that reading, `library` the calls under test. `random`, `sheet` and `islands` make
+//! the inputs, `host` runs programs; the benchmark uses these too. The other modules are the tests.
+
+pub mod host;
+pub mod islands;
+pub mod library;
+pub mod random;
+pub mod reference;
+pub mod sheet;
+
+#[cfg(test)]
+mod charts;
+#[cfg(test)]
+mod client;
+#[cfg(test)]
+mod compare;
+#[cfg(test)]
+mod damage;
+#[cfg(test)]
+mod known_point;
+#[cfg(test)]
+mod outlines;
+#[cfg(test)]
+mod program;
+
+/// A point as a caller hands it over: any three numbers, on the grid or not.
+pub type Point = [i32; 3];
+
+/// What comes back: document 01's number, place and count.
+#[derive(Clone, Copy, Debug, PartialEq, Eq)]
+pub struct Answer {
+    pub number: u32,
+    pub place: usize,
+    pub count: u32,
+}

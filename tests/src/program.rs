@@ -1,0 +1,156 @@
+//! The program zone_judge, on temporary folders, against the reference.
+
+use crate::host::{command, output_of, repository, run_in_pieces, Folder};
+use crate::random::Random;
+use crate::sheet::{octant, point_bytes, Sheet};
+use crate::{reference, Point};
+use std::collections::BTreeSet;
+use std::fs::{self, File};
+use std::process::Command;
+
+const K2_K3_K5_K8: [Point; 4] = [[3, 2, 1], [1, 1, 0], [1, 1, -1], [-1, -1, -1]];
+
+fn input_of(queries: &[Point]) -> Vec<u8> {
+    queries.iter().copied().flat_map(point_bytes).collect()
+}
+
+fn random_input(seed: u64, queries: usize) -> Vec<u8> {
+    let mut random = Random::new(seed);
+    input_of(&(0..queries).map(|_| random.point(3)).collect::<Vec<Point>>())
+}
+
+/// The program in a folder with this sheet, or with none.
+fn zone_judge(folder: &Folder, sheet: Option<&[u8]>) -> Command {
+    match sheet {
+        Some(bytes) => drop(folder.write("zone.sheet", bytes)),
+        None => drop(fs::remove_file(folder.path("zone.sheet"))),
+    }
+    let mut program = Command::new(repository("target/bin/zone_judge").canonicalize().expect("zone_judge"));
+    program.current_dir(folder.path(""));
+    program
+}
+
+/// Runs the program and holds it to the reference.
+fn agrees(folder: &Folder, sheet: Option<&[u8]>, input: &[u8]) -> String {
+    let printed = output_of(&mut zone_judge(folder, sheet), input);
+    assert_eq!(printed, reference::program(sheet, input));
+    printed
+}
+
+/// A sheet for each refusal, the octant with one thing wrong.
+fn refused_sheets() -> Vec<Vec<u8>> {
+    let change = |what: fn(&mut Sheet)| {
+        let mut sheet = octant();
+        what(&mut sheet);
+        sheet.bytes()
+    };
+    vec![
+        change(|sheet| sheet.vertices[2] = [0, 0, 1_048_577]),
+        change(|sheet| sheet.vertices[1] = [0, 0, 0]),
+        change(|sheet| sheet.vertices[1] = [2, 0, 0]),
+        change(|sheet| sheet.vertices[1] = [0, 0, -5]),
+        change(|sheet| sheet.known = [i32::MIN, 0, 0]),
+        change(|sheet| sheet.known = [1, 0, 1]),
+        octant().bytes()[..68].to_vec(),
+        octant().bytes()[7..].to_vec(),
+        change(|sheet| sheet.name = vec![0x41; 121]),
+        change(|sheet| sheet.charset = 4),
+        [octant().bytes(), vec![0]].concat(),
+    ]
+}
+
+#[test]
+fn program_octant() {
+    let folder = Folder::new("octant");
+    let printed = agrees(&folder, Some(&octant().bytes()), &input_of(&K2_K3_K5_K8));
+    assert_eq!(printed, "1 0 0\n3 0 0\n2 0 1\n18 0 0\n");
+}
+
+#[test]
+fn program_refusals() {
+    let folder = Folder::new("refusals");
+    let queries = input_of(&K2_K3_K5_K8);
+    for input in [&queries[..], &queries[..7], &[]] {
+        assert_eq!(agrees(&folder, None, input), "20 0 0\n");
+        assert_eq!(agrees(&folder, Some(&[]), input), "20 0 0\n");
+        let mut numbers = BTreeSet::new();
+        for sheet in refused_sheets() {
+            let printed = agrees(&folder, Some(&sheet), input);
+            numbers.insert(printed.split(' ').next().unwrap().parse::<u32>().unwrap());
+        }
+        assert_eq!(numbers.into_iter().collect::<Vec<_>>(), [11, 12, 13, 14, 15, 16, 20, 21, 22, 23, 24]);
+    }
+}
+
+/// The longest sheet, and files that are longer: the program reads 49,305 bytes.
+#[test]
+fn program_long_files() {
+    let folder = Folder::new("long");
+    let mut sheet = octant();
+    sheet.name = vec![0x41; 120];
+    sheet.vertices = (0..4096).map(|i| [(i % 2) * 7, 1, i + 1]).collect();
+    sheet.known = [500, 1, 3];
+    let longest = sheet.bytes();
+    assert_eq!(longest.len(), 49_304);
+    let input = random_input(40, 50);
+    assert_eq!(agrees(&folder, Some(&longest), &input).lines().count(), 50);
+    for more in [1, 2, 1_000, 1_000_000] {
+        let long = [longest.clone(), vec![5; more]].concat();
+        assert_eq!(agrees(&folder, Some(&long), &input), "24 49304 0\n");
+        assert_eq!(agrees(&folder, Some(&long[4..]), &input), "21 0 0\n");
+    }
+}
+
+#[test]
+fn program_cut_queries() {
+    let folder = Folder::new("cut");
+    let sheet = octant().bytes();
+    assert_eq!(agrees(&folder, Some(&sheet), &[]), "");
+    for whole in [0, 1, 5, 2_000] {
+        let input = random_input(41, whole + 1);
+        for over in 1..12 {
+            let printed = agrees(&folder, Some(&sheet), &input[..12 * whole + over]);
+            assert!(printed.ends_with(&format!("20 {whole} 0\n")));
+        }
+    }
+}
+
+/// 100,000 queries from a pipe and from a file, to a pipe and to a file, and handed over in pieces
+/// that cut queries.
+#[test]
+fn program_many_queries() {
+    let folder = Folder::new("many");
+    let sheet = octant().bytes();
+    let input = random_input(42, 100_000);
+    let expected = reference::program(Some(&sheet), &input);
+    assert_eq!(agrees(&folder, Some(&sheet), &input), expected);
+    for piece in [7, 4_095, 4_097] {
+        let output = run_in_pieces(&mut zone_judge(&folder, Some(&sheet)), &input, piece);
+        assert!(output.stdout == expected.as_bytes(), "in pieces of {piece}");
+    }
+    let queries = folder.write("queries", &input);
+    let status = zone_judge(&folder, Some(&sheet))
+        .stdin(File::open(queries).expect("queries"))
+        .stdout(File::create(folder.path("answers")).expect("answers"))
+        .status();
+    assert!(status.expect("status").success());
+    assert!(fs::read_to_string(folder.path("answers")).expect("answers") == expected, "to a file");
+    println!("program: {} lines compared", 5 * expected.lines().count());
+}
+
+/// The program's output may be read slowly, or not to its end.
+#[test]
+fn program_in_a_pipeline() {
+    let folder = Folder::new("pipeline");
+    let sheet = octant().bytes();
+    let input = random_input(43, 100_000);
+    let expected = reference::program(Some(&sheet), &input);
+    let queries = folder.write("queries", &input);
+    let program = format!("{:?} < {queries:?}", zone_judge(&folder, Some(&sheet)).get_program());
+    let shell = |then: &str| {
+        let mut shell = command("sh", ["-c", &format!("{program} | {then}")]);
+        output_of(shell.current_dir(folder.path("")), &[])
+    };
+    assert!(shell("(sleep 1; cat)") == expected);
+    assert_eq!(shell("head -n 3").lines().collect::<Vec<_>>(), expected.lines().take(3).collect::<Vec<_>>());
+}

@@ -1,0 +1,56 @@
+//! Zone sheets as bytes. Nothing is checked here: bad sheets are wanted too.
+
+use crate::Point;
+
+#[derive(Clone)]
+pub struct Sheet {
+    pub zone: u32,
+    pub charset: u8,
+    pub name: Vec<u8>,
+    pub known: Point,
+    pub vertices: Vec<Point>,
+}
+
+impl Sheet {
+    /// Zone 7, UTF-8, name "A": what document 01 gives its octant.
+    pub fn new(known: Point, vertices: &[Point]) -> Sheet {
+        Sheet { zone: 7, charset: 1, name: b"A".to_vec(), known, vertices: vertices.to_vec() }
+    }
+
+    /// The five fields, each still on its own.
+    pub fn fields(&self) -> [Vec<u8>; 5] {
+        [
+            field(1, &self.zone.to_be_bytes()),
+            field(2, &[self.charset]),
+            field(3, &self.name),
+            field(4, &point_bytes(self.known)),
+            field(5, &self.vertices.iter().copied().flat_map(point_bytes).collect::<Vec<u8>>()),
+        ]
+    }
+
+    pub fn bytes(&self) -> Vec<u8> {
+        self.fields().concat()
+    }
+}
+
+/// Tag, length and body; a length over 65,535 is cut to its lowest 16 bits.
+pub fn field(tag: u8, body: &[u8]) -> Vec<u8> {
+    let [high, low] = (body.len() as u16).to_be_bytes();
+    [&[tag, high, low], body].concat()
+}
+
+/// A point's 12 bytes, as in the sheet and on the program's standard input.
+pub fn point_bytes(point: Point) -> [u8; 12] {
+    let mut bytes = [0; 12];
+    for (k, number) in point.iter().enumerate() {
+        bytes[4 * k..4 * k + 4].copy_from_slice(&number.to_be_bytes());
+    }
+    bytes
+}
+
+pub const OCTANT: [Point; 3] = [[1, 0, 0], [0, 1, 0], [0, 0, 1]];
+
+/// Document 01's octant: 69 bytes.
+pub fn octant() -> Sheet {
+    Sheet::new([1, 1, 1], &OCTANT)
+}
