@@ -2,8 +2,8 @@
  * spargolutta.h: does a point lie inside, outside or on the boundary of a polygon on the sphere?
  *
  * The polygon comes as a zone sheet (bytes) and the query as three whole numbers. Three calls take the same arguments
- * and each fetches one part of the same answer: its number, its place, its count. All work is in whole numbers, so no
- * answer depends on rounding.
+ * and each fetches one part of the same answer: its number, its place, its count. Three more judge a feed, any number
+ * of queries to one sheet. All work is in whole numbers, so no answer depends on rounding.
  *
  *     cc client.c $(pkg-config --cflags --libs spargolutta)
  *
@@ -37,13 +37,15 @@ extern "C" {
 /*
  * The numbers. Place and count are 0 where the table names none.
  *
- * A sheet is checked field by field: three head bytes present (20), tag (21), length (22), body present (20), character
- * set (23). Then come 24 and 11 to 16, each over the whole list before the next; then the query's 17 and 18. The first
- * that holds is given. 10 is listed for completeness: in a sheet 22 comes before it, so these calls never give it. Nor
- * do they give 0 and 25, which are of reading and writing a sheet.
+ * A feed's lengths come first (26, 27). A sheet is checked field by field: three head bytes present (20), tag (21),
+ * length (22), body present (20), character set (23). Then come 24 and 11 to 16, each over the whole list before the
+ * next; then the query's 17 and 18. The first that holds is given. 10 is listed for completeness: in a sheet 22 comes
+ * before it, so these calls never give it. Nor do they give 25, which is of writing a sheet. 0, 26 and 27 are a feed's
+ * own; a query's answer is never one of them.
  */
 enum spg_number {
                                 /* meaning                                             place / count                  */
+    SPG_DONE = 0,               /* a feed was judged and its results are written                                      */
     SPG_INSIDE = 1,             /* inside                                              count: sides crossed           */
     SPG_OUTSIDE = 2,            /* outside                                             count: sides crossed           */
     SPG_BOUNDARY = 3,           /* on a side                                           place: lowest such side        */
@@ -60,7 +62,9 @@ enum spg_number {
     SPG_SHEET_TAG = 21,         /* wrong tag                                           place: where the field begins  */
     SPG_SHEET_LENGTH = 22,      /* length not allowed                                  place: where the field begins  */
     SPG_SHEET_CHARSET = 23,     /* unknown character set                               place: where the field begins  */
-    SPG_SHEET_TRAILING = 24     /* bytes after the last field                          place: first such byte         */
+    SPG_SHEET_TRAILING = 24,    /* bytes after the last field                          place: first such byte         */
+    SPG_QUERIES_CUT = 26,       /* a feed's queries are not whole twelves                                             */
+    SPG_RESULTS_SHORT = 27      /* a feed's result buffer is too short                 place: bytes needed            */
 };
 
 /*
@@ -80,10 +84,40 @@ uint32_t spg_judge_number(const uint8_t *sheet, size_t sheet_len, int32_t x, int
 size_t spg_judge_place(const uint8_t *sheet, size_t sheet_len, int32_t x, int32_t y, int32_t z);
 uint32_t spg_judge_count(const uint8_t *sheet, size_t sheet_len, int32_t x, int32_t y, int32_t z);
 
+/*
+ * spg_feed_number, spg_feed_place, spg_feed_count: any number of queries, one sheet. The sheet is checked once.
+ *
+ * sheet, sheet_len      As above: any bytes, any length.
+ * queries, queries_len  The queries, 12 bytes each: x, y, z, signed 32-bit, big-endian, as in the sheet. Any bytes and
+ *                       any length, none among them: a feed of no queries still checks the sheet.
+ * results, results_len  The result buffer, queries_len bytes or more. The calls for place and count take its length
+ *                       alone.
+ * Result                0, place 0, count 0 where the feed was judged; or 26, 27 or the sheet's refusal, once for the
+ *                       whole feed. With the same sheet, queries and results_len the three belong together.
+ *
+ * spg_feed_number writes, and it alone. With 0, result i is the 12 bytes from 12 * i on: number, place and count of
+ * query i as spg_judge_number, _place and _count give them, each unsigned 32-bit, big-endian. A query that is refused
+ * (17, 18) spoils only its own result. The bytes past the last result stay as they were. With any other number nothing
+ * at all is written.
+ *
+ * The result buffer must not overlap the sheet or the queries: the compiled code may assume that what it writes is not
+ * what it reads. No pointer may be NULL, even where its length is 0. For the rest the calls are as those above: only
+ * the bytes named are touched, they keep no state, allocate nothing, always return and need less than 64 KiB of stack.
+ * Any number of threads may call at once, each with a result buffer of its own. spg_feed_place and spg_feed_count check
+ * the lengths and the sheet and judge no query.
+ */
+uint32_t spg_feed_number(const uint8_t *sheet, size_t sheet_len, const uint8_t *queries, size_t queries_len,
+                         uint8_t *results, size_t results_len);
+size_t spg_feed_place(const uint8_t *sheet, size_t sheet_len, const uint8_t *queries, size_t queries_len,
+                      size_t results_len);
+uint32_t spg_feed_count(const uint8_t *sheet, size_t sheet_len, const uint8_t *queries, size_t queries_len,
+                        size_t results_len);
+
 /* A short English text for a number of the table, for logs; for any other, "unknown number". Never NULL. */
 static inline const char *spg_meaning(uint32_t number)
 {
     switch (number) {
+    case SPG_DONE: return "done";
     case SPG_INSIDE: return "inside";
     case SPG_OUTSIDE: return "outside";
     case SPG_BOUNDARY: return "boundary";
@@ -101,6 +135,8 @@ static inline const char *spg_meaning(uint32_t number)
     case SPG_SHEET_LENGTH: return "length not allowed in the sheet";
     case SPG_SHEET_CHARSET: return "unknown character set";
     case SPG_SHEET_TRAILING: return "bytes after the last field";
+    case SPG_QUERIES_CUT: return "queries not whole twelves";
+    case SPG_RESULTS_SHORT: return "result buffer too short";
     default: return "unknown number";
     }
 }

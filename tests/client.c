@@ -1,35 +1,44 @@
 /*
- * Calls the library on sheets that stand where a read too far, or any write, ends the program.
+ * Calls the library on bytes that stand where a read or write too far ends the program.
  *
  *     client        reads cases from standard input and prints number, place and count for each, a line a case.
- *                   A case is the sheet's length (4 bytes, big-endian), the sheet, and the query (12 bytes).
- *     client stack  reads one case and prints how many bytes of stack a thread needs for its three calls.
+ *                   A case is the sheet and the query (12 bytes).
+ *     client feed   the same for feeds, with the result buffer as the call leaves it, in hexadecimal. A case is the
+ *                   sheet, the queries, and a result buffer's bytes.
+ *     client long   prints number, place and count of a feed whose queries have more than 32 bits of bytes.
+ *     client stack  reads one case of a feed and prints how many bytes of stack a thread needs for all six calls.
  *
- * The sheet stands once right before a page that may not be touched and once right behind one, and its own pages can
- * only be read while it is judged. Both places have to give the same answer.
+ * In a case bytes of any number have their length before them (4 bytes, big-endian). All that is lent stands once right
+ * before a page that may not be touched and once right behind one, on pages that can only be read while it is judged;
+ * but for the result buffer: see feed_placed. Both places have to give the same answer.
  */
 #include <pthread.h>
 #include <spargolutta.h>
+#include <stdbool.h>
 #include <stdio.h>
 #include <stdlib.h>
 #include <string.h>
 #include <sys/mman.h>
 #include <unistd.h>
 
-#define SHEET_ROOM (1 << 17)
+#define ROOM (1 << 17)
 #define STACK_ROOM (1 << 20)
 #define PAINT 0xa5
 
+struct bytes {
+    uint8_t *at;
+    size_t length;
+};
+
 struct judged {
-    const uint8_t *sheet;
-    size_t sheet_len;
+    struct bytes sheet, queries, results;
     int32_t query[3];
     uint32_t number;
     size_t place;
     uint32_t count;
 };
 
-static void require(int holds, const char *what)
+static void require(bool holds, const char *what)
 {
     if (!holds) {
         fprintf(stderr, "client: %s\n", what);
@@ -42,47 +51,165 @@ static uint32_t word_at(const uint8_t *bytes)
     return (uint32_t)bytes[0] << 24 | (uint32_t)bytes[1] << 16 | (uint32_t)bytes[2] << 8 | bytes[3];
 }
 
-static void *judge(void *argument)
+static void judge(struct judged *j)
 {
-    struct judged *j = argument;
-    j->number = spg_judge_number(j->sheet, j->sheet_len, j->query[0], j->query[1], j->query[2]);
-    j->place = spg_judge_place(j->sheet, j->sheet_len, j->query[0], j->query[1], j->query[2]);
-    j->count = spg_judge_count(j->sheet, j->sheet_len, j->query[0], j->query[1], j->query[2]);
+    struct bytes s = j->sheet;
+    j->number = spg_judge_number(s.at, s.length, j->query[0], j->query[1], j->query[2]);
+    j->place = spg_judge_place(s.at, s.length, j->query[0], j->query[1], j->query[2]);
+    j->count = spg_judge_count(s.at, s.length, j->query[0], j->query[1], j->query[2]);
+}
+
+static void feed(struct judged *j)
+{
+    struct bytes s = j->sheet, q = j->queries, r = j->results;
+    j->place = spg_feed_place(s.at, s.length, q.at, q.length, r.length);
+    j->count = spg_feed_count(s.at, s.length, q.at, q.length, r.length);
+    j->number = spg_feed_number(s.at, s.length, q.at, q.length, r.at, r.length);
+}
+
+static void *judge_and_feed(void *argument)
+{
+    judge(argument);
+    feed(argument);
     return NULL;
 }
 
-/* SHEET_ROOM bytes between two pages that may not be touched. */
+/* ROOM bytes between two pages that may not be touched. */
 static uint8_t *guarded_room(void)
 {
     size_t page = (size_t)sysconf(_SC_PAGESIZE);
-    uint8_t *all = mmap(NULL, SHEET_ROOM + 2 * page, PROT_NONE, MAP_PRIVATE | MAP_ANONYMOUS, -1, 0);
+    uint8_t *all = mmap(NULL, ROOM + 2 * page, PROT_NONE, MAP_PRIVATE | MAP_ANONYMOUS, -1, 0);
     require(all != MAP_FAILED, "no memory");
     return all + page;
 }
 
-/* Puts the sheet into the room, `at` bytes from its start, and judges it there. */
-static void judge_at(uint8_t *room, size_t at, const uint8_t *sheet, struct judged *j)
+static void protect(uint8_t *room, size_t length, int protection)
 {
-    require(mprotect(room, SHEET_ROOM, PROT_READ | PROT_WRITE) == 0, "pages cannot be opened");
-    memcpy(room + at, sheet, j->sheet_len);
-    require(mprotect(room, SHEET_ROOM, PROT_READ) == 0, "pages cannot be closed");
-    j->sheet = room + at;
-    judge(j);
+    require(mprotect(room, length, protection) == 0, "pages cannot be changed");
 }
 
-/* Reads one case; 0 at the end of the input. */
-static int read_case(uint8_t *sheet, struct judged *j)
+/* Puts the bytes into the room, at its start or at its end, and closes it for writing. */
+static struct bytes lend(uint8_t *room, struct bytes from, bool at_end)
 {
-    uint8_t word[12];
+    struct bytes lent = {at_end ? room + ROOM - from.length : room, from.length};
+    protect(room, ROOM, PROT_READ | PROT_WRITE);
+    memcpy(lent.at, from.at, from.length);
+    protect(room, ROOM, PROT_READ);
+    return lent;
+}
+
+/* Reads bytes with their length before them; false at the end of the input. */
+static bool read_row(struct bytes *row)
+{
+    uint8_t word[4];
     if (fread(word, 1, 4, stdin) == 0)
-        return 0;
-    j->sheet_len = word_at(word);
-    require(j->sheet_len <= SHEET_ROOM, "sheet too long");
-    require(fread(sheet, 1, j->sheet_len, stdin) == j->sheet_len, "case cut short");
-    require(fread(word, 1, 12, stdin) == 12, "case cut short");
+        return false;
+    row->length = word_at(word);
+    require(row->length <= ROOM, "too long");
+    require(fread(row->at, 1, row->length, stdin) == row->length, "case cut short");
+    return true;
+}
+
+static bool read_feed(struct judged *j)
+{
+    bool read = read_row(&j->sheet) && read_row(&j->queries) && read_row(&j->results);
+    require(j->queries.length <= ROOM / 2 && j->results.length <= ROOM / 2, "feed too long");
+    return read;
+}
+
+static void set_query(struct judged *j, const uint8_t *query)
+{
     for (int k = 0; k < 3; k++)
-        j->query[k] = (int32_t)word_at(word + 4 * k);
-    return 1;
+        j->query[k] = (int32_t)word_at(query + 4 * k);
+}
+
+static void print_answer(const struct judged *j, char after)
+{
+    printf("%u %zu %u%c", (unsigned)j->number, j->place, (unsigned)j->count, after);
+}
+
+static bool same_answer(const struct judged *j, const struct judged *k)
+{
+    return j->number == k->number && j->place == k->place && j->count == k->count;
+}
+
+static void judge_cases(struct judged *from)
+{
+    uint8_t *room = guarded_room();
+    while (read_row(&from->sheet)) {
+        uint8_t query[12];
+        struct judged first = *from, last;
+        require(fread(query, 1, sizeof query, stdin) == sizeof query, "case cut short");
+        set_query(&first, query);
+        last = first;
+        first.sheet = lend(room, from->sheet, false);
+        judge(&first);
+        last.sheet = lend(room, from->sheet, true);
+        judge(&last);
+        require(same_answer(&first, &last), "the answer depends on where the sheet stands");
+        print_answer(&last, '\n');
+    }
+}
+
+/*
+ * Judges a feed with the result buffer at `at` in its room, of which the first `open` bytes may be written; bytes of
+ * the room that are not the buffer's stay as they are. A refusal is asked for again with the buffer closed for writing.
+ */
+static void feed_placed(uint8_t *room, size_t at, size_t open, struct bytes results, struct judged *j)
+{
+    protect(room, ROOM, PROT_READ | PROT_WRITE);
+    memset(room, PAINT, ROOM);
+    j->results = (struct bytes){room + at, results.length};
+    memcpy(j->results.at, results.at, results.length);
+    protect(room, ROOM, PROT_READ);
+    if (open > 0)
+        protect(room, open, PROT_READ | PROT_WRITE);
+    feed(j);
+    protect(room, ROOM, PROT_READ);
+    if (j->number != SPG_DONE)
+        feed(j);
+    for (size_t k = 0; k < ROOM; k++)
+        require((at <= k && k < at + results.length) || room[k] == PAINT, "a byte beside the result buffer changed");
+}
+
+/*
+ * Once all three stand at the ends of their rooms; once sheet and queries at the starts, and the result buffer so that
+ * its last result (if there is room for it) ends where pages begin that can only be read: no byte past it is written.
+ */
+static void feed_cases(struct judged *from)
+{
+    static uint8_t results_of_first[ROOM];
+    uint8_t *sheets = guarded_room(), *queries = guarded_room(), *results = guarded_room();
+    while (read_feed(from)) {
+        struct judged first = *from, last = *from;
+        size_t needed = from->queries.length <= from->results.length ? from->queries.length : from->results.length;
+        first.sheet = lend(sheets, from->sheet, false);
+        first.queries = lend(queries, from->queries, false);
+        feed_placed(results, ROOM / 2 - needed, ROOM / 2, from->results, &first);
+        memcpy(results_of_first, first.results.at, from->results.length);
+        last.sheet = lend(sheets, from->sheet, true);
+        last.queries = lend(queries, from->queries, true);
+        feed_placed(results, ROOM - from->results.length, ROOM, from->results, &last);
+        require(same_answer(&first, &last), "the answer depends on where the bytes stand");
+        require(memcmp(results_of_first, last.results.at, from->results.length) == 0, "the results do");
+        print_answer(&last, ' ');
+        for (size_t k = 0; k < from->results.length; k++)
+            printf("%02x", last.results.at[k]);
+        putchar('\n');
+    }
+}
+
+/* The queries' bytes may not even be read: 27 is found by their length alone. */
+static void feed_long(struct judged *j)
+{
+    size_t length = ((size_t)1 << 32) / 12 * 12 + 24;
+    void *queries = mmap(NULL, length, PROT_NONE, MAP_PRIVATE | MAP_ANONYMOUS | MAP_NORESERVE, -1, 0);
+    require(queries != MAP_FAILED, "no addresses");
+    j->sheet.length = 0;
+    j->queries = (struct bytes){queries, length};
+    j->results.length = 12;
+    feed(j);
+    print_answer(j, '\n');
 }
 
 /* Judges in a thread whose stack is painted first, and counts the bytes that lost their paint. */
@@ -95,7 +222,7 @@ static size_t stack_needed(struct judged *j)
     memset(stack, PAINT, sizeof stack);
     require(pthread_attr_init(&attributes) == 0, "no thread attributes");
     require(pthread_attr_setstack(&attributes, stack, sizeof stack) == 0, "stack not taken");
-    require(pthread_create(&thread, &attributes, judge, j) == 0, "no thread");
+    require(pthread_create(&thread, &attributes, judge_and_feed, j) == 0, "no thread");
     require(pthread_join(thread, NULL) == 0, "thread lost");
     while (untouched < sizeof stack && stack[untouched] == PAINT)
         untouched++;
@@ -104,22 +231,20 @@ static size_t stack_needed(struct judged *j)
 
 int main(int argc, char **argv)
 {
-    static uint8_t sheet[SHEET_ROOM];
-    struct judged first = {0}, last;
-    if (argc == 2 && strcmp(argv[1], "stack") == 0) {
-        require(read_case(sheet, &first), "no case");
-        first.sheet = sheet;
-        printf("%zu\n", stack_needed(&first));
-        return 0;
-    }
-    uint8_t *room = guarded_room();
-    while (read_case(sheet, &first)) {
-        last = first;
-        judge_at(room, 0, sheet, &first);
-        judge_at(room, SHEET_ROOM - last.sheet_len, sheet, &last);
-        require(first.number == last.number && first.place == last.place && first.count == last.count,
-                "the answer depends on where the sheet stands");
-        printf("%u %zu %u\n", (unsigned)last.number, last.place, (unsigned)last.count);
+    static uint8_t sheet[ROOM], queries[ROOM], results[ROOM];
+    const char *mode = argc == 2 ? argv[1] : "";
+    struct judged from = {.sheet = {sheet, 0}, .queries = {queries, 0}, .results = {results, 0}};
+    if (strcmp(mode, "feed") == 0) {
+        feed_cases(&from);
+    } else if (strcmp(mode, "long") == 0) {
+        feed_long(&from);
+    } else if (strcmp(mode, "stack") == 0) {
+        require(read_feed(&from), "no case");
+        set_query(&from, queries);
+        printf("%zu\n", stack_needed(&from));
+        require(from.number == SPG_DONE, "the feed is refused");
+    } else {
+        judge_cases(&from);
     }
     return 0;
 }

@@ -1,6 +1,7 @@
 /*
  * The library's method in plain C, for the benchmark: read the fields, decode the vertices once into an array, one pass
- * for each check, one pass for the verdict. The arithmetic is 64-bit, the turn as document 01 writes it.
+ * for each check, one pass for the verdict; for a feed all but the verdict once. The arithmetic is 64-bit, the turn as
+ * document 01 writes it.
  */
 #include "judge.h"
 #include <stdbool.h>
@@ -168,9 +169,16 @@ static bool length_allowed(uint8_t tag, size_t length)
     }
 }
 
-answer c_judge(const uint8_t *sheet, size_t sheet_len, int32_t x, int32_t y, int32_t z)
-{
+/* What a sheet holds. */
+typedef struct {
     int32_t list[12288];
+    size_t n;
+    point known;
+} outline;
+
+/* Reads and checks the sheet; number 0 if it is good. */
+static answer open_sheet(const uint8_t *sheet, size_t sheet_len, outline *o)
+{
     size_t at = 0, body[6] = {0}, length = 0;
     for (uint8_t tag = 1; tag <= 5; tag++) {
         if (sheet_len - at < 3)
@@ -190,8 +198,43 @@ answer c_judge(const uint8_t *sheet, size_t sheet_len, int32_t x, int32_t y, int
     if (at < sheet_len)
         return refuse(24, at);
     for (size_t k = 0; k < length / 4; k++)
-        list[k] = (int32_t)word_at(sheet, body[5] + 4 * k);
-    point known = point_at(sheet, body[4]);
-    answer refusal = check(list, length / 12, known);
-    return refusal.number != 0 ? refusal : verdict(list, length / 12, known, (point){x, y, z});
+        o->list[k] = (int32_t)word_at(sheet, body[5] + 4 * k);
+    o->n = length / 12;
+    o->known = point_at(sheet, body[4]);
+    return check(o->list, o->n, o->known);
+}
+
+answer c_judge(const uint8_t *sheet, size_t sheet_len, int32_t x, int32_t y, int32_t z)
+{
+    outline o;
+    answer refusal = open_sheet(sheet, sheet_len, &o);
+    return refusal.number != 0 ? refusal : verdict(o.list, o.n, o.known, (point){x, y, z});
+}
+
+static void put_word(uint8_t *bytes, uint32_t word)
+{
+    bytes[0] = (uint8_t)(word >> 24);
+    bytes[1] = (uint8_t)(word >> 16);
+    bytes[2] = (uint8_t)(word >> 8);
+    bytes[3] = (uint8_t)word;
+}
+
+answer c_feed(const uint8_t *sheet, size_t sheet_len, const uint8_t *queries, size_t queries_len, uint8_t *results,
+              size_t results_len)
+{
+    outline o;
+    if (queries_len % 12 != 0)
+        return refuse(26, 0);
+    if (results_len < queries_len)
+        return refuse(27, queries_len);
+    answer refusal = open_sheet(sheet, sheet_len, &o);
+    if (refusal.number != 0)
+        return refusal;
+    for (size_t at = 0; at < queries_len; at += 12) {
+        answer a = verdict(o.list, o.n, o.known, point_at(queries, at));
+        put_word(results + at, a.number);
+        put_word(results + at + 4, (uint32_t)a.place);
+        put_word(results + at + 8, a.count);
+    }
+    return refuse(0, 0);
 }

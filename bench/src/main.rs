@@ -1,12 +1,13 @@
-//! One call of the library against the same method in checked Rust and in C, and the program against
-//! one in C. The contestants take turns, and the least time of many rounds counts.
+//! One call of the library against the same method in checked Rust and in C, a feed against single
+//! calls and against a feed in C, and the program against one in C. The contestants take turns, and the
+//! least time of many rounds counts.
 
 mod judge;
 
 use spargolutta_tests::host::{repository, Folder};
-use spargolutta_tests::islands::{islands, queries, Extent, SIDES};
+use spargolutta_tests::islands::{islands, queries, Extent, EXTENTS, QUERIES, SIDES};
 use spargolutta_tests::random::Random;
-use spargolutta_tests::sheet::{octant, point_bytes};
+use spargolutta_tests::sheet::{octant, points_bytes};
 use spargolutta_tests::{library, Point};
 use std::fs::{self, File};
 use std::path::Path;
@@ -14,6 +15,7 @@ use std::process::Command;
 use std::time::Instant;
 
 const ROUNDS: usize = 60;
+const FEED_ROUNDS: usize = 12;
 
 #[repr(C)]
 struct CAnswer {
@@ -24,6 +26,14 @@ struct CAnswer {
 
 extern "C" {
     fn c_judge(sheet: *const u8, sheet_len: usize, x: i32, y: i32, z: i32) -> CAnswer;
+    fn c_feed(
+        sheet: *const u8,
+        sheet_len: usize,
+        queries: *const u8,
+        queries_len: usize,
+        results: *mut u8,
+        results_len: usize,
+    ) -> CAnswer;
 }
 
 type Contestant = fn(&[u8], Point) -> u32;
@@ -79,6 +89,57 @@ fn compare_calls() {
     }
 }
 
+type FeedContestant = fn(&[u8], &[u8], &mut [u8]);
+
+fn feed_call(sheet: &[u8], queries: &[u8], results: &mut [u8]) {
+    assert_eq!(library::feed_number(sheet, queries, results), 0);
+}
+
+/// The single call for each query. It gives the number alone: place and count would be calls more.
+fn single_calls(sheet: &[u8], queries: &[u8], results: &mut [u8]) {
+    for (query, result) in queries.chunks_exact(12).zip(results.chunks_exact_mut(12)) {
+        let number = |k: usize| i32::from_be_bytes(query[k..k + 4].try_into().expect("four bytes"));
+        let answer = library::number(sheet, [number(0), number(4), number(8)]);
+        result[..4].copy_from_slice(&answer.to_be_bytes());
+    }
+}
+
+fn c_feed_call(sheet: &[u8], queries: &[u8], results: &mut [u8]) {
+    let (out, out_len) = (results.as_mut_ptr(), results.len());
+    let answer =
+        unsafe { c_feed(sheet.as_ptr(), sheet.len(), queries.as_ptr(), queries.len(), out, out_len) };
+    assert_eq!((answer.number, answer.place, answer.count), (0, 0, 0));
+}
+
+/// Milliseconds a feed for each contestant, each time into a cleared buffer; and what is in it last.
+fn measure_feeds(contestants: &[FeedContestant], sheet: &[u8], queries: &[u8]) -> Vec<(f64, Vec<u8>)> {
+    let mut measured = vec![(f64::INFINITY, vec![0; queries.len()]); contestants.len()];
+    for _ in 0..FEED_ROUNDS {
+        for (contestant, (least, results)) in contestants.iter().zip(&mut measured) {
+            results.fill(0);
+            let start = Instant::now();
+            contestant(sheet, queries, results);
+            *least = least.min(1e3 * start.elapsed().as_secs_f64());
+        }
+    }
+    measured
+}
+
+fn compare_feeds() {
+    println!("A feed of {QUERIES} queries to {SIDES} sides, least of {FEED_ROUNDS} rounds:");
+    for extent in EXTENTS {
+        let islands = islands(1, SIDES, extent);
+        let queries = points_bytes(&queries(2, &islands, QUERIES));
+        let measured = measure_feeds(&[feed_call, single_calls, c_feed_call], &islands.sheet(), &queries);
+        let [(feed, results), (single, numbers), (c, c_results)] = &measured[..] else { unreachable!() };
+        assert!(results == c_results, "the feeds differ");
+        let number = |bytes: &[u8]| bytes.chunks(12).map(|result| result[..4].to_vec()).collect::<Vec<_>>();
+        assert!(number(results) == number(numbers), "the feed differs from the single calls");
+        let ratios = format!("{:.2} of single calls, {:.2} of C", feed / single, feed / c);
+        println!("{:>12}: {ratios} ({feed:.1}, {single:.1}, {c:.1} ms)", format!("{extent:?}"));
+    }
+}
+
 /// Seconds that a program needs for the folder's queries.
 fn run_program(program: &Path, folder: &Folder, answers: &str) -> f64 {
     let start = Instant::now();
@@ -95,7 +156,7 @@ fn compare_programs() {
     const QUERIES: usize = 1_000_000;
     let folder = Folder::new("bench");
     let random = &mut Random::new(3);
-    let queries: Vec<u8> = (0..QUERIES).flat_map(|_| point_bytes(random.point(3))).collect();
+    let queries = points_bytes(&(0..QUERIES).map(|_| random.point(3)).collect::<Vec<_>>());
     folder.write("zone.sheet", &octant().bytes());
     folder.write("queries", &queries);
     let ours = repository("target/bin/zone_judge").canonicalize().expect("zone_judge");
@@ -114,5 +175,6 @@ fn compare_programs() {
 fn main() {
     println!("Ratios of times on {}.", processor());
     compare_calls();
+    compare_feeds();
     compare_programs();
 }

@@ -1,8 +1,10 @@
 //! The header and the archive as a C user gets them: installed, compiled, linked, run.
 
-use crate::compare::expect;
+use crate::compare::{expect, Tally};
 use crate::host::{command, output_of, repository, run_in_pieces, Folder};
-use crate::sheet::{octant, point_bytes, Sheet};
+use crate::outlines::{sheet_and_queries, Source};
+use crate::random::Random;
+use crate::sheet::{octant, point_bytes, points_bytes, Sheet};
 use crate::{damage, reference, Answer, Point};
 use std::fs;
 use std::path::Path;
@@ -53,11 +55,8 @@ fn compile(folder: &Folder, source: &str, words: &[&str], flags: &[String]) -> C
     Command::new(program)
 }
 
-/// Installs under a temporary prefix, compiles the importer with what pkg-config says, and runs it.
-/// The expected texts follow document 01's K2, K3, K4, K5, K8 and its lines 17, 20, 22 and 24.
-#[test]
-fn importer_installed() {
-    let folder = Folder::new("installed");
+/// Installs under a temporary prefix and compiles the importer with what pkg-config says.
+fn installed_importer(folder: &Folder) -> Command {
     let prefix = folder.path("prefix");
     // The archive is there: `-o lib` keeps make from making it again.
     let mut make = command("make", ["--no-print-directory", "-o", "lib", "install"]);
@@ -66,8 +65,14 @@ fn importer_installed() {
     let flags = installed_flags(&prefix);
     let file = fs::read_to_string(prefix.join("lib/pkgconfig/spargolutta.pc")).expect("file");
     assert_eq!(flags_of(&file).split_whitespace().collect::<Vec<_>>(), flags);
-    let importer = compile(&folder, "examples/importer.c", &[], &flags);
+    compile(folder, "examples/importer.c", &[], &flags)
+}
 
+/// The expected texts follow document 01's K2, K3, K4, K5, K8 and its lines 17, 20, 22 and 24.
+#[test]
+fn importer_installed() {
+    let folder = Folder::new("installed");
+    let importer = installed_importer(&folder);
     let octant = octant().bytes();
     let stops = "3 2 1 Lighthouse\n1 1 0 Old pier\n1 0 0 Quay\n1 1 -1 Open sea\n-1 -1 -1 Far side\n\
                  1048577 0 0 Off the map\n0 0 0 Centre\n12 13\n1 1 99999999999 Too far\n2 2 2 Market\n";
@@ -94,6 +99,14 @@ fn importer_installed() {
     import(&long, "stops", 1, "", "refused: harbour: bytes after the last field (24), place 69\n");
     let two = Sheet::new([1, 1, 1], &[[1, 0, 0], [0, 1, 0]]).bytes();
     import(&two, "stops", 1, "", "refused: harbour: length not allowed in the sheet (22), place 30\n");
+    // No feed, a full one, and more than one.
+    for n in [0, 4_096, 9_000] {
+        let lines = |start: &str, end: &str| (0..n).map(|k| format!("{start}Stop {k}{end}\n")).collect();
+        let (stops, belong): (String, String) = (lines("3 2 1 ", ""), lines("", ": inside"));
+        folder.write("stops", stops.as_bytes());
+        import(&octant, "stops", 0, &belong, "");
+        import(&[], "stops", 1, "", "refused: harbour: sheet cut short (20), place 0\n");
+    }
     import(&octant, "missing", 2, "", "missing: No such file or directory\n");
 }
 
@@ -103,7 +116,7 @@ fn importer_installed() {
 fn header() {
     let folder = Folder::new("header");
     let source = "#include <spargolutta.h>\n#include <stdio.h>\n\
-                  int main(void) { for (unsigned n = 0; n < 30; n++) puts(spg_meaning(n)); }\n";
+                  int main(void) { for (unsigned n = 0; n < 40; n++) puts(spg_meaning(n)); }\n";
     let program = folder.path("header");
     for (compiler, name) in [("cc", "header.c"), ("c++", "header.cc")] {
         if Command::new(compiler).arg("--version").output().is_err() {
@@ -115,33 +128,88 @@ fn header() {
         let printed = output_of(&mut Command::new(&program), &[]);
         let meanings: Vec<&str> = printed.lines().collect();
         for (n, meaning) in meanings.iter().enumerate() {
-            let listed = matches!(n, 1..=3 | 10..=18 | 20..=24);
+            let listed = matches!(n, 0..=3 | 10..=18 | 20..=24 | 26 | 27);
             assert_eq!(*meaning != "unknown number", listed, "{n}");
             assert!(!listed || meanings.iter().filter(|other| *other == meaning).count() == 1, "{n}");
         }
     }
 }
 
-fn case_bytes((sheet, query): &(Vec<u8>, Point)) -> Vec<u8> {
-    [&(sheet.len() as u32).to_be_bytes()[..], sheet, &point_bytes(*query)].concat()
+/// Bytes as the client reads them, with their length before them.
+fn row(bytes: &[u8]) -> Vec<u8> {
+    [&(bytes.len() as u32).to_be_bytes()[..], bytes].concat()
+}
+
+/// The client, built with the sanitizers.
+fn sanitized_client(folder: &Folder) -> Command {
+    let sanitize = ["-D_GNU_SOURCE", "-O1", "-g", "-fsanitize=address,undefined"];
+    compile(folder, "tests/client.c", &sanitize, &flags())
+}
+
+/// The three numbers that a line begins with.
+fn answer_of(line: &str) -> Answer {
+    let words: Vec<usize> = line.split(' ').take(3).map(|word| word.parse().expect("number")).collect();
+    Answer { number: words[0] as u32, place: words[1], count: words[2] as u32 }
 }
 
 /// Damaged sheets at the very ends of pages that can only be read, under AddressSanitizer.
 #[test]
 fn guard_pages() {
     let folder = Folder::new("pages");
-    let sanitize = ["-D_GNU_SOURCE", "-O1", "-g", "-fsanitize=address,undefined"];
-    let mut client = compile(&folder, "tests/client.c", &sanitize, &flags());
     let cases = damage::all_cases();
+    let case_bytes = |(sheet, query): &(Vec<u8>, Point)| [row(sheet), point_bytes(*query).to_vec()].concat();
     let input: Vec<u8> = cases.iter().flat_map(case_bytes).collect();
-    let printed = output_of(&mut client, &input);
+    let printed = output_of(&mut sanitized_client(&folder), &input);
     assert_eq!(printed.lines().count(), cases.len());
     for (line, (sheet, query)) in printed.lines().zip(&cases) {
-        let words: Vec<usize> = line.split(' ').map(|word| word.parse().expect("number")).collect();
-        let found = Answer { number: words[0] as u32, place: words[1], count: words[2] as u32 };
-        expect(sheet, *query, found);
+        expect(sheet, *query, answer_of(line));
     }
     println!("guard pages: {} damaged sheets", cases.len());
+}
+
+/// Feeds whose queries and results stand at the very ends of pages: good sheets and damaged ones,
+/// queries that are whole and cut, buffers that are short, exact and long.
+#[test]
+fn feed_guard_pages() {
+    let folder = Folder::new("feed-pages");
+    let random = &mut Random::new(80);
+    let mut feeds = vec![];
+    for k in 0..3_000 {
+        let count = random.below(30);
+        let (sheet, queries) = sheet_and_queries(random, Source::Within(1 + k % 5), 12, count);
+        let mut queries = points_bytes(&queries);
+        queries.truncate(queries.len().saturating_sub(random.pick(&[0, 0, 0, 0, 0, 0, 1, 11])));
+        let room = (queries.len() + random.pick(&[0, 0, 0, 1, 5, 12, 5_000]))
+            .saturating_sub(random.pick(&[0, 0, 0, 1]));
+        feeds.push((sheet, queries, vec![0xc3; room]));
+    }
+    for (sheet, query) in damage::all_cases().into_iter().step_by(50) {
+        let queries = points_bytes(&vec![query; random.below(4)]);
+        feeds.push((sheet, queries.clone(), vec![0xc3; queries.len() + random.below(3)]));
+    }
+    let case_bytes = |(sheet, queries, buffer): &(Vec<u8>, Vec<u8>, Vec<u8>)| {
+        [sheet, queries, buffer].map(|b| row(b)).concat()
+    };
+    let input: Vec<u8> = feeds.iter().flat_map(case_bytes).collect();
+    let printed = output_of(sanitized_client(&folder).arg("feed"), &input);
+    assert_eq!(printed.lines().count(), feeds.len());
+    let mut tally = Tally::default();
+    for (line, (sheet, queries, buffer)) in printed.lines().zip(&feeds) {
+        let (expected, after) = reference::feed(sheet, queries, buffer);
+        assert_eq!(answer_of(line), expected);
+        let hex: String = after.iter().map(|byte| format!("{byte:02x}")).collect();
+        assert_eq!(line.split(' ').nth(3), Some(&hex[..]), "{expected:?}");
+        tally.count(expected.number);
+    }
+    tally.report("feeds, guard pages", 4_000, [0, 13, 16, 20, 21, 22, 26, 27]);
+}
+
+/// More than 2^32 bytes needed: the place is not cut to 32 bits.
+#[test]
+fn feed_place_is_not_cut() {
+    let folder = Folder::new("long");
+    let mut client = compile(&folder, "tests/client.c", &["-D_GNU_SOURCE", "-O1"], &flags());
+    assert_eq!(output_of(client.arg("long"), &[]), "27 4294967316 0\n");
 }
 
 /// The header promises that a call needs less than 64 KiB of stack.
@@ -151,9 +219,11 @@ fn stack() {
     let mut client = compile(&folder, "tests/client.c", &["-D_GNU_SOURCE", "-O1"], &flags());
     client.arg("stack");
     let vertices: Vec<Point> = (0..4096).map(|i| [(i % 2) * 7, 1, i + 1]).collect();
-    let case = (Sheet::new([500, 1, 3], &vertices).bytes(), [3, 2, 1]);
-    assert_eq!(reference::judge(&case.0, case.1).number, 1);
-    let needed: usize = output_of(&mut client, &case_bytes(&case)).trim().parse().expect("bytes");
+    let sheet = Sheet::new([500, 1, 3], &vertices).bytes();
+    assert_eq!(reference::judge(&sheet, [3, 2, 1]).number, 1);
+    let queries = points_bytes(&[[3, 2, 1]; 100]);
+    let case = [&sheet, &queries, &vec![0; queries.len()]].map(|bytes| row(bytes)).concat();
+    let needed: usize = output_of(&mut client, &case).trim().parse().expect("bytes");
     println!("stack: {needed} bytes, those of starting a thread among them");
     assert!(needed < 65_536);
 }

@@ -14,7 +14,11 @@ impl Tally {
         let found = library::judge(&lent, query);
         assert!(lent == sheet, "the sheet's bytes changed{}", case(sheet, query));
         expect(sheet, query, found);
-        *self.0.entry(found.number).or_default() += 1;
+        self.count(found.number);
+    }
+
+    pub fn count(&mut self, number: u32) {
+        *self.0.entry(number).or_default() += 1;
     }
 
     /// Prints what was compared, and fails if it was too little or a number did not occur.

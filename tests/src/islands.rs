@@ -199,7 +199,7 @@ mod tests {
     use super::*;
     use crate::compare::Tally;
     use crate::library::number;
-    use crate::sheet::point_bytes;
+    use crate::sheet::points_bytes;
 
     #[test]
     fn compared() {
@@ -228,7 +228,7 @@ mod tests {
             let times = |number: u32| numbers.iter().filter(|&&n| n == number).count();
             assert!((5_000..7_000).contains(&times(1)), "{extent:?}: {} inside", times(1));
             assert_eq!(times(1) + times(2) + times(3) + times(18), QUERIES, "{extent:?}");
-            let bytes = [sheet, queries.into_iter().flat_map(point_bytes).collect()].concat();
+            let bytes = [sheet, points_bytes(&queries)].concat();
             assert_eq!(fnv(&bytes), digest, "{extent:?}");
         }
     }

@@ -1,4 +1,5 @@
-//! Host tests: the archive and the program against a second, independent reading of document 01.
+//! Host tests: the archive and the program against a second, independent reading of documents
+//! 01 and 02.
 //!
 //! `reference` is that reading, `library` the calls under test. `random`, `sheet` and `islands` make
 //! the inputs, `host` runs programs; the benchmark uses these too. The other modules are the tests.
@@ -18,6 +19,8 @@ mod client;
 mod compare;
 #[cfg(test)]
 mod damage;
+#[cfg(test)]
+mod feed;
 #[cfg(test)]
 mod known_point;
 #[cfg(test)]

@@ -6,6 +6,28 @@ extern "C" {
     fn spg_judge_number(sheet: *const u8, sheet_len: usize, x: i32, y: i32, z: i32) -> u32;
     fn spg_judge_place(sheet: *const u8, sheet_len: usize, x: i32, y: i32, z: i32) -> usize;
     fn spg_judge_count(sheet: *const u8, sheet_len: usize, x: i32, y: i32, z: i32) -> u32;
+    fn spg_feed_number(
+        sheet: *const u8,
+        sheet_len: usize,
+        queries: *const u8,
+        queries_len: usize,
+        results: *mut u8,
+        results_len: usize,
+    ) -> u32;
+    fn spg_feed_place(
+        sheet: *const u8,
+        sheet_len: usize,
+        queries: *const u8,
+        queries_len: usize,
+        results_len: usize,
+    ) -> usize;
+    fn spg_feed_count(
+        sheet: *const u8,
+        sheet_len: usize,
+        queries: *const u8,
+        queries_len: usize,
+        results_len: usize,
+    ) -> u32;
 }
 
 pub fn number(sheet: &[u8], [x, y, z]: Point) -> u32 {
@@ -18,6 +40,21 @@ pub fn place(sheet: &[u8], [x, y, z]: Point) -> usize {
 
 pub fn count(sheet: &[u8], [x, y, z]: Point) -> u32 {
     unsafe { spg_judge_count(sheet.as_ptr(), sheet.len(), x, y, z) }
+}
+
+/// Judges and writes.
+pub fn feed_number(sheet: &[u8], queries: &[u8], results: &mut [u8]) -> u32 {
+    let (out, out_len) = (results.as_mut_ptr(), results.len());
+    unsafe { spg_feed_number(sheet.as_ptr(), sheet.len(), queries.as_ptr(), queries.len(), out, out_len) }
+}
+
+/// The place for a result buffer of `room` bytes; nothing is written.
+pub fn feed_place(sheet: &[u8], queries: &[u8], room: usize) -> usize {
+    unsafe { spg_feed_place(sheet.as_ptr(), sheet.len(), queries.as_ptr(), queries.len(), room) }
+}
+
+pub fn feed_count(sheet: &[u8], queries: &[u8], room: usize) -> u32 {
+    unsafe { spg_feed_count(sheet.as_ptr(), sheet.len(), queries.as_ptr(), queries.len(), room) }
 }
 
 pub fn judge(sheet: &[u8], query: Point) -> Answer {

@@ -9,7 +9,7 @@ const LIMIT: i32 = 1_048_576;
 
 /// Where a family of outlines takes its coordinates from.
 #[derive(Clone, Copy)]
-enum Source {
+pub enum Source {
     /// From -n to n: small n, so that points often meet, lie on one line or are opposite.
     Within(i32),
     /// The limits, next to them, 0 and 1.
@@ -63,6 +63,19 @@ fn ring(random: &mut Random, source: Source, n: usize) -> Vec<Point> {
         ring.push(next);
     }
     ring
+}
+
+/// The sheet of an outline and a known point, and queries to it.
+pub fn sheet_and_queries(
+    random: &mut Random,
+    source: Source,
+    most: usize,
+    count: usize,
+) -> (Vec<u8>, Vec<Point>) {
+    let vertices = outline(random, source, most);
+    let known = known_point(random, source, &vertices);
+    let queries = (0..count).map(|_| query(random, source, known, &vertices)).collect();
+    (Sheet::new(known, &vertices).bytes(), queries)
 }
 
 /// A ring as it is, walked out and back, walked twice, two rings joined by a corridor, or a ring
@@ -136,11 +149,9 @@ fn query(random: &mut Random, source: Source, known: Point, vertices: &[Point]) 
 fn compare_family(tally: &mut Tally, seed: u64, source: Source, most: usize, outlines: usize) {
     let random = &mut Random::new(seed);
     for _ in 0..outlines {
-        let vertices = outline(random, source, most);
-        let known = known_point(random, source, &vertices);
-        let sheet = Sheet::new(known, &vertices).bytes();
-        for _ in 0..20 {
-            tally.compare(&sheet, query(random, source, known, &vertices));
+        let (sheet, queries) = sheet_and_queries(random, source, most, 20);
+        for query in queries {
+            tally.compare(&sheet, query);
         }
     }
 }

@@ -2,7 +2,7 @@
 
 use crate::host::{command, output_of, repository, run_in_pieces, Folder};
 use crate::random::Random;
-use crate::sheet::{octant, point_bytes, Sheet};
+use crate::sheet::{octant, points_bytes, Sheet};
 use crate::{reference, Point};
 use std::collections::BTreeSet;
 use std::fs::{self, File};
@@ -10,13 +10,9 @@ use std::process::Command;
 
 const K2_K3_K5_K8: [Point; 4] = [[3, 2, 1], [1, 1, 0], [1, 1, -1], [-1, -1, -1]];
 
-fn input_of(queries: &[Point]) -> Vec<u8> {
-    queries.iter().copied().flat_map(point_bytes).collect()
-}
-
 fn random_input(seed: u64, queries: usize) -> Vec<u8> {
     let mut random = Random::new(seed);
-    input_of(&(0..queries).map(|_| random.point(3)).collect::<Vec<Point>>())
+    points_bytes(&(0..queries).map(|_| random.point(3)).collect::<Vec<Point>>())
 }
 
 /// The program in a folder with this sheet, or with none.
@@ -38,7 +34,7 @@ fn agrees(folder: &Folder, sheet: Option<&[u8]>, input: &[u8]) -> String {
 }
 
 /// A sheet for each refusal, the octant with one thing wrong.
-fn refused_sheets() -> Vec<Vec<u8>> {
+pub fn refused_sheets() -> Vec<Vec<u8>> {
     let change = |what: fn(&mut Sheet)| {
         let mut sheet = octant();
         what(&mut sheet);
@@ -62,14 +58,14 @@ fn refused_sheets() -> Vec<Vec<u8>> {
 #[test]
 fn program_octant() {
     let folder = Folder::new("octant");
-    let printed = agrees(&folder, Some(&octant().bytes()), &input_of(&K2_K3_K5_K8));
+    let printed = agrees(&folder, Some(&octant().bytes()), &points_bytes(&K2_K3_K5_K8));
     assert_eq!(printed, "1 0 0\n3 0 0\n2 0 1\n18 0 0\n");
 }
 
 #[test]
 fn program_refusals() {
     let folder = Folder::new("refusals");
-    let queries = input_of(&K2_K3_K5_K8);
+    let queries = points_bytes(&K2_K3_K5_K8);
     for input in [&queries[..], &queries[..7], &[]] {
         assert_eq!(agrees(&folder, None, input), "20 0 0\n");
         assert_eq!(agrees(&folder, Some(&[]), input), "20 0 0\n");

@@ -1,5 +1,5 @@
-//! Document 01 in plain Rust, from its text alone: 128-bit integers, and the shortest code that says
-//! what the document says. The parts stand in the document's order, under its words.
+//! Documents 01 and 02 in plain Rust, from their text alone: 128-bit integers, and the shortest code
+//! that says what the documents say. The parts stand in their order, under their words.
 
 use crate::{Answer, Point};
 
@@ -199,6 +199,34 @@ pub fn program(sheet: Option<&[u8]>, input: &[u8]) -> String {
                 text += &line(answer(20, whole, 0));
             }
             text
+        }
+    }
+}
+
+// P1. A whole feed in one call
+
+/// The feed's own answer, and the result buffer as the call leaves it.
+pub fn feed(sheet: &[u8], queries: &[u8], buffer: &[u8]) -> (Answer, Vec<u8>) {
+    let unchanged = |refusal| (refusal, buffer.to_vec());
+    if queries.len() % 12 != 0 {
+        return unchanged(answer(26, 0, 0));
+    }
+    let needed = 12 * (queries.len() / 12);
+    if buffer.len() < needed {
+        return unchanged(answer(27, needed, 0));
+    }
+    match read(sheet) {
+        Err(refusal) => unchanged(refusal),
+        Ok((known, vertices)) => {
+            let mut after = vec![];
+            for query in points(queries) {
+                let Answer { number, place, count } = verdict(&vertices, known, query);
+                for word in [number, u32::try_from(place).expect("a side's number"), count] {
+                    after.extend(word.to_be_bytes());
+                }
+            }
+            after.extend(&buffer[needed..]);
+            (answer(0, 0, 0), after)
         }
     }
 }

@@ -24,7 +24,7 @@ impl Sheet {
             field(2, &[self.charset]),
             field(3, &self.name),
             field(4, &point_bytes(self.known)),
-            field(5, &self.vertices.iter().copied().flat_map(point_bytes).collect::<Vec<u8>>()),
+            field(5, &points_bytes(&self.vertices)),
         ]
     }
 
@@ -46,6 +46,10 @@ pub fn point_bytes(point: Point) -> [u8; 12] {
         bytes[4 * k..4 * k + 4].copy_from_slice(&number.to_be_bytes());
     }
     bytes
+}
+
+pub fn points_bytes(points: &[Point]) -> Vec<u8> {
+    points.iter().copied().flat_map(point_bytes).collect()
 }
 
 pub const OCTANT: [Point; 3] = [[1, 0, 0], [0, 1, 0], [0, 0, 1]];

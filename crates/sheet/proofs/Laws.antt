@@ -10,4 +10,5 @@ pub mod Written
 pub mod Kept
 pub mod Numbers
 pub mod Reads
+pub mod Feeds
 pub mod Writes

@@ -1,20 +1,25 @@
--- The promised theorems, as statements. Their proofs are in proofs/Claims.
--- Stated, in order: WrittenReadsBack (what is written reads back the same), ReadWritesBack (what is read writes back
--- the same bytes), ReadNeverTen (reading never gives 10), SheetSize (a sheet has 69 to 49,304 bytes), OctantSheet
--- (document 01's sheet of 69 bytes, byte by byte: the round trips would hold of another layout too). They are of the
--- definitions that the contracts of `read`, `load` and `write` cite. Assumes nothing.
+-- The promised theorems, as statements. Their proofs are in proofs/Claims. Stated, in order: WrittenReadsBack (what
+-- is written reads back the same), ReadWritesBack (what is read writes back the same bytes), ReadNeverTen (reading
+-- never gives 10), SheetSize (a sheet has 69 to 49,304 bytes), OctantSheet (document 01's sheet of 69 bytes, byte by
+-- byte: the round trips would hold of another layout too), SheetFeedEqualsSingle (a feed by a sheet answers each
+-- query as the single call does). They are of the definitions that the contracts of `read`, `load`, `write`, `judge`
+-- and `feed` cite. Assumes nothing.
 use mathlib.Core.Path.{_≡_}
 use mathlib.Core.List.{List, [], _∷_, _++_}
-use Prim.Native.Nat.{ℕ, _≤_, _<_}
+use Prim.Native.Nat.{ℕ, _*_, _≤_, _<_}
 use lib.IntN.{ℤ, pos}
 use lib.ListN.{length, take, drop}
 use Rattle.sphere.specs.declared.point.Point.{Point}
 use Rattle.big_endian.specs.Bytes.{AreBytes}
+use Rattle.batch.specs.Feed.{queryCount, queryAt}
+use Rattle.batch.specs.Feed as Feed
+use Rattle.batch.specs.Claims.{Encodes}
 use Rattle.polygon.specs.declared.answer.Answer.the-variants.{Done}
 use Rattle.polygon.specs.Answer.{numberOf, placeOf}
 use Rattle.polygon.specs.Vertices.{vertexCount}
 use Rattle.sheet.specs.declared.read.Sheet.{Sheet}
 use Rattle.sheet.specs.Sheet.{nameAt, verticesOf, readOf}
+use Rattle.sheet.specs.Judge.{sheetAnswerOf, sheetFeedOf, sheetFedTo}
 use Rattle.sheet.specs.Write.{sheetBytes, writeOf, writtenTo}
 
 -- The name's bytes, by the place and the length that reading hands back.
@@ -81,3 +86,15 @@ octantBytes =
 
 abbrev pub OctantSheet : Type 0
 OctantSheet = sheetBytes 7 1 (65 ∷ []) centre octant ≡ octantBytes
+
+-- The result buffer after a feed that succeeds: what the single call by the sheet answers to each query, in order, and
+-- every other byte as it was.
+pub record SheetFed (b queries buffer after : List ℕ) : Type 0 where
+  pub same-length : length after ≡ length buffer
+  pub each : (i : ℕ) → i < queryCount queries → Encodes after (i * 12) (sheetAnswerOf b (queryAt queries i))
+  pub rest : drop (Feed.neededFor queries) after ≡ drop (Feed.neededFor queries) buffer
+
+abbrev pub SheetFeedEqualsSingle : Type 0
+SheetFeedEqualsSingle =
+    (b queries buffer : List ℕ) → sheetFeedOf b queries (length buffer) ≡ Done 0 →
+    SheetFed b queries buffer (sheetFedTo b queries buffer)

@@ -1,8 +1,8 @@
 -- Document 01, 'The zone sheet', first layer: the fields, by bytes alone. Refusals 20 to 24, each with its place.
 -- Defined, in order: failsHere; isAllowed, fieldEnd, fieldCheck (one field: 20, 21, 22, 20); charsetStart, nameStart,
 -- knownStart, verticesStart, sheetEnd; zoneCheck, isCharset, charsetCheck, isNameLength, nameCheck, knownCheck,
--- verticesCheck; sheetFields (20 to 23), restCheck (24), fieldsCheck. A field begins at its tag. What the fields mean is in
--- specs/Sheet. Assumes nothing.
+-- verticesCheck; sheetFields (20 to 23), restCheck (24), fieldsCheck. A field begins at its tag. What the fields mean
+-- is in specs/Sheet. Assumes nothing.
 use mathlib.Core.Bool.{Bool, not, _&&_, cond}
 use mathlib.Core.List.{List}
 use Prim.Native.Nat.{ℕ, _+_, _%_}

@@ -1,13 +1,31 @@
--- Judging by a sheet's bytes and a query: a bad sheet gives that sheet's refusal.
--- Defined: sheetAnswerOf. Document 01, 'The zone sheet', on the importer's calls. Assumes nothing.
+-- Judging by a sheet's bytes: one query, and a feed of them (document 02, P1). A bad sheet gives that sheet's refusal.
+-- Defined, in order: sheetAnswerOf; sheetFeedCheck (26 and 27 come before 20), sheetFeedOf, sheetFedTo.
+-- Document 01, 'The zone sheet', on the importer's calls. Assumes nothing.
 use mathlib.Core.List.{List}
 use Prim.Native.Nat.{ℕ}
+use lib.ListN.{length}
 use Rattle.sphere.specs.declared.point.Point.{Point}
 use Rattle.sphere.specs.Point.{coarse}
 use Rattle.polygon.specs.declared.answer.Answer.{Answer}
+use Rattle.polygon.specs.declared.answer.Answer.the-variants.{Done}
+use Rattle.polygon.specs.declared.answer.Check.{Check}
 use Rattle.polygon.specs.Answer.{answerAfter}
+use Rattle.polygon.specs.Checks.{_then_}
 use Rattle.polygon.specs.Verdict.{answerOf}
+use Rattle.batch.specs.Feed.{sizeCheck, feedBytes, fedAfter}
 use Rattle.sheet.specs.Sheet.{knownOf, verticesOf, sheetCheck}
 
 unfoldable pub sheetAnswerOf : List ℕ → Point → Answer
 sheetAnswerOf b P = answerAfter (sheetCheck b) (answerOf coarse (verticesOf b) (knownOf b) P)
+
+-- All that is checked once for a feed, with `room` bytes for its results.
+unfoldable pub sheetFeedCheck : List ℕ → List ℕ → ℕ → Check
+sheetFeedCheck b queries room = sizeCheck queries room then sheetCheck b
+
+unfoldable pub sheetFeedOf : List ℕ → List ℕ → ℕ → Answer
+sheetFeedOf b queries room = answerAfter (sheetFeedCheck b queries room) (Done 0)
+
+-- The result buffer after the call: the results in front, or all as it was.
+unfoldable pub sheetFedTo : List ℕ → List ℕ → List ℕ → List ℕ
+sheetFedTo b queries buffer =
+    fedAfter (sheetFeedCheck b queries (length buffer)) (feedBytes coarse (verticesOf b) (knownOf b) queries) buffer

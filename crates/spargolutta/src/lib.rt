@@ -1,15 +1,18 @@
-// The C boundary: functions over a sheet's bytes and a query's three numbers, each returning one number.
-// Declared for C in include/spargolutta.h; nothing checks that declaration against this source. Nothing is written, and
-// nothing is kept between calls. Assumes nothing.
+// The C boundary: functions over a sheet's bytes and a query's three numbers, or a feed's bytes, each returning one
+// number. Declared for C in include/spargolutta.h; nothing checks that declaration against this source. Only
+// spg_feed_number writes, and nothing is kept between calls. Assumes nothing.
 ghost use mathlib.Core.Path.{_≡_};
+ghost use lib.ListN.{length};
 ghost use Rattle.polygon.specs.Answer.{numberOf, placeOf, countOf};
-ghost use Rattle.sheet.specs.Judge.{sheetAnswerOf};
+ghost use Rattle.sheet.specs.Judge.{sheetAnswerOf, sheetFeedOf, sheetFedTo};
 ghost use Rattle.spargolutta.specs.Query.{queryOf};
 use polygon::answer::Answer;
 use polygon::answer::count;
 use polygon::answer::number;
 use polygon::answer::place;
 use polygon::vertices::wide;
+use sheet::feed::feed;
+use sheet::feed::feed_answer;
 use sheet::judge::judge;
 use sphere::point::Point;
 
@@ -46,4 +49,29 @@ pub extern "C" fn spg_judge_count(sheet: &[u8], x: i32, y: i32, z: i32) -> u32
     ensures { λ r. ⌜ r ≡ countOf (sheetAnswerOf (now (sheet .entry)) (queryOf x y z)) ⌝ }
 {
     count(answer(sheet, x, y, z))
+}
+
+// A feed: the results are written if and only if the number is 0.
+#[no_mangle]
+pub extern "C" fn spg_feed_number(sheet: &[u8], queries: &[u8], results: &mut [u8]) -> u32
+    ensures { λ r. ⌜ r ≡ numberOf (sheetFeedOf (now (sheet .entry)) (now (queries .entry))
+        (length (now (results .entry)))) ⌝ }
+    ensures { λ _. ⌜ now (results .exit) ≡ sheetFedTo (now (sheet .entry)) (now (queries .entry))
+        (now (results .entry)) ⌝ }
+{
+    number(feed(sheet, queries, results))
+}
+
+#[no_mangle]
+pub extern "C" fn spg_feed_place(sheet: &[u8], queries: &[u8], room: usize) -> usize
+    ensures { λ r. ⌜ r ≡ placeOf (sheetFeedOf (now (sheet .entry)) (now (queries .entry)) room) ⌝ }
+{
+    place(feed_answer(sheet, queries, room))
+}
+
+#[no_mangle]
+pub extern "C" fn spg_feed_count(sheet: &[u8], queries: &[u8], room: usize) -> u32
+    ensures { λ r. ⌜ r ≡ countOf (sheetFeedOf (now (sheet .entry)) (now (queries .entry)) room) ⌝ }
+{
+    count(feed_answer(sheet, queries, room))
 }

@@ -1,6 +1,6 @@
 // What the program reads: the sheet's file, and standard input in pieces of whole queries.
-// Here, in order: SHEET_MOST, QUERY, PIECE, read_sheet, read_queries. Document 01, 'The zone sheet', last paragraph.
-// Assumes what `libc` and `os` state of C's calls, and nothing else.
+// Here, in order: read_sheet, read_queries. Assumes nothing.
+
 ghost use mathlib.Core.Path.{_≡_};
 ghost use Prim.Native.Nat.{_%_, _≤_};
 ghost use lib.ListN.{length};
@@ -28,8 +28,8 @@ pub(crate) fn read_sheet(bytes: &mut [u8; 49305]) -> usize
     n
 }
 
-// Reads what is there, and the rest of the last query: no more, so that a caller that waits for its answers gets
-// them. The number of bytes read is 0 or not a multiple of 12 only where the input ends.
+// Reads what is there, and the rest of the last query: no more, so that a caller that waits for its answers gets them.
+// The number of bytes read is 0 or not a multiple of 12 only where the input ends.
 pub(crate) fn read_queries(piece: &mut [u8]) -> usize
     requires { ⌜ length (now piece) % 12 ≡ 0 ⌝ }
     ensures { λ r. ⌜ r ≤ length (now (piece .entry)) ⌝ }

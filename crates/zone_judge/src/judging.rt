@@ -1,13 +1,12 @@
-// Judging the queries of standard input, piece by piece. Here, in order: OUTPUT, QUERIES_MOST, judge_queries,
-// judge_piece, judge_pieces, judge_all. Document 01, 'The zone sheet', last paragraph. Assumes what `libc` states of
-// C's calls, and nothing else.
+// Judging the queries of standard input, piece by piece: each piece is one feed.
+// Here, in order: judge_whole, put_lines, judge_piece, judge_pieces, judge_all. Assumes nothing.
+
 ghost use mathlib.Core.Path.{_≡_};
 ghost use Prim.Native.Nat.{_*_, _≤_, _<_};
 ghost use lib.ListN.{length};
 use crate::input;
 use crate::lines;
-use big_endian::read;
-use polygon::judge;
+use batch::feed;
 use sphere::point::Point;
 
 // Room for the lines of the 4,096 queries of a piece.
@@ -16,28 +15,44 @@ const OUTPUT: usize = 258_048;
 // More queries than any run reads. A proved loop has to end, and nothing says that the input does.
 const QUERIES_MOST: u64 = 18_000_000_000_000_000_000;
 
-// Judges the first n queries and puts a line for each at the start of `out`. Where the lines end.
-fn judge_queries(vertices: &[i32], known: Point, queries: &[u8], n: usize, out: &mut [u8]) -> usize
-    requires { ⌜ (n * 12 ≤ length (now queries)) × (n * 63 ≤ length (now out)) ⌝ }
+// Judges the first `size` bytes of `queries` as one feed. It is never refused: the sheet was accepted, these are whole
+// queries, and `results` is as long as `queries`.
+fn judge_whole(vertices: &[i32], known: Point, queries: &[u8], size: usize, results: &mut [u8])
+    requires { ⌜ size ≤ length (now queries) ⌝ }
+{
+    feed::judge_feed(vertices, known, &queries[..size], results);
+}
+
+// Puts a line for each of the first n results at the start of `out`. Where the lines end.
+fn put_lines(results: &[u8], n: usize, out: &mut [u8]) -> usize
+    requires { ⌜ (n * 12 ≤ length (now results)) × (n * 63 ≤ length (now out)) ⌝ }
     ensures { λ r. ⌜ r ≤ n * 63 ⌝ }
 {
     let mut at = 0;
     for i in 0..n {
-        let query = read::point_at(queries, i * input::QUERY);
-        at = lines::put_answer(judge::judge(vertices, known, query), out, at);
+        at = lines::put_result(results, i * input::QUERY, out, at);
     }
     at
 }
 
 // One piece: reads, judges and writes. The number of its queries, or 0 where there is nothing more to do: the input
 // ended or a write failed.
-fn judge_piece(vertices: &[i32], known: Point, done: u64, piece: &mut [u8], out: &mut [u8]) -> u64
-    requires { ⌜ (done < 18000000000000000000) × ((length (now piece) ≡ 49152) × (length (now out) ≡ 258048)) ⌝ }
+fn judge_piece(
+    vertices: &[i32],
+    known: Point,
+    done: u64,
+    piece: &mut [u8],
+    results: &mut [u8],
+    out: &mut [u8],
+) -> u64
+    requires { ⌜ (done < 18000000000000000000) × (length (now piece) ≡ 49152) ⌝ }
+    requires { ⌜ (length (now results) ≡ 49152) × (length (now out) ≡ 258048) ⌝ }
     ensures { λ r. ⌜ r ≤ 4096 ⌝ }
 {
     let size = input::read_queries(piece);
     let n = size / input::QUERY;
-    let end = judge_queries(vertices, known, piece, n, out);
+    judge_whole(vertices, known, piece, n * input::QUERY, results);
+    let end = put_lines(results, n, out);
     if size % input::QUERY == 0 {
         if lines::print(out, end) {
             return n as u64;
@@ -55,10 +70,11 @@ fn judge_pieces(vertices: &[i32], n: usize, known: Point)
 {
     let polygon = &vertices[..n];
     let mut piece = [0u8; input::PIECE];
+    let mut results = [0u8; input::PIECE];
     let mut out = [0u8; OUTPUT];
     let mut done: u64 = 0;
     while done < QUERIES_MOST {
-        let answered = judge_piece(polygon, known, done, &mut piece, &mut out);
+        let answered = judge_piece(polygon, known, done, &mut piece, &mut results, &mut out);
         if answered == 0 {
             return;
         }

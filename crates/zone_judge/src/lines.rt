@@ -1,8 +1,9 @@
 // Lines of output, put into a buffer: number, place and count, parted by single spaces.
-// Here, in order: LONGEST, digit_count, put_number, put_line, put_answer, print. Assumes what `libc` states of C's
-// calls, and nothing else.
+// Here, in order: digit_count, put_number, put_line, put_result, put_answer, print. Assumes nothing.
+
 ghost use Prim.Native.Nat.{_+_, _≤_};
 ghost use lib.ListN.{length};
+use big_endian::read;
 use libc::STDOUT_FILENO;
 use polygon::answer;
 use polygon::answer::Answer;
@@ -47,6 +48,22 @@ pub(crate) fn put_line(number: u32, place: u64, count: u32, out: &mut [u8], at: 
     let place_at = put_number(number as u64, b' ', out, at);
     let count_at = put_number(place, b' ', out, place_at);
     put_number(count as u64, b'\n', out, count_at)
+}
+
+// The line of the result that begins `from` bytes into `results`.
+pub(crate) fn put_result(results: &[u8], from: usize, out: &mut [u8], at: usize) -> usize
+    requires { ⌜ (from + 12 ≤ length (now results)) × (at + 63 ≤ length (now out)) ⌝ }
+    ensures { λ r. ⌜ r ≤ at + 63 ⌝ }
+{
+    let number = read::word_at(results, from);
+    let place = read::word_at(results, from + 4);
+    put_line(
+        number,
+        place as u64,
+        read::word_at(results, from + 8),
+        out,
+        at,
+    )
 }
 
 pub(crate) fn put_answer(given: Answer, out: &mut [u8], at: usize) -> usize

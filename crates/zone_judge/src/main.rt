@@ -1,11 +1,10 @@
-// Document 01's program: reads the file `zone.sheet` in the current folder and queries of 12 bytes from standard
-// input, and prints one line for each query: number, place, count.
+// Document 01's program: reads the file `zone.sheet` in the current folder and queries of 12 bytes from standard input,
+// and prints one line for each query: number, place, count.
 //
-// A refused sheet gives one line, its number, place and 0, and nothing else. A file that is missing or cannot be
-// read counts as an empty sheet. A cut query at the end gives 20, the number of whole queries before it, and 0.
-// Reading, judging and writing lie apart, in `input`, `judging` and `lines`. Proved: each function is safe and ends.
-// What the library answers is proved in `sheet` and `polygon`. Assumes what `libc` and `os` state of C's calls, and
-// nothing else.
+// A refused sheet gives one line, its number, place and 0, and nothing else. A file that is missing or cannot be read
+// counts as an empty sheet. A cut query at the end gives 20, the number of whole queries before it, and 0. Reading,
+// judging and writing lie apart, in `input`, `judging` and `lines`. Proved: each function is safe and ends. What the
+// library answers is proved in `sheet`, `polygon` and `batch`. Assumes nothing.
 mod input;
 mod judging;
 mod lines;

@@ -1,7 +1,8 @@
 -- What reading hands back and leaves, case by case. Proved, in order: fields-sound, sheet-passed, sheet-sound,
--- sheet-unsound, sheet-polygon; read-refused, read-accepted; loaded-by, decoded-by, loaded-row, loaded-room. Assumes
+-- sheet-unsound, sheet-polygon; read-refused, read-accepted; loaded-by, decoded-by, loaded-row, loaded-room,
+-- opened-row, opened-room. Assumes
 -- nothing.
-use mathlib.Core.Path.{_≡_, ap}
+use mathlib.Core.Path.{_≡_, ap, ap₂, _∙_}
 use mathlib.Core.List.{List, _++_}
 use Prim.Native.Nat.{ℕ, _+_, _*_, _≤_}
 use native.Mathlib.Omega.{arith}
@@ -67,3 +68,15 @@ module _ (b : List ℕ) where
       let all = length-append (verticesOf b) rest in
       let front = intsAt-length b (verticesStart b + 3) (vertexCountOf b * 3) in
       omega arith
+
+  -- ---- the scratch space after the checks of a sheet that passed
+  module _ (scratch : List ℤ) {left : List ℤ} (e : sheetCheck b ≡ Passed) (d : left ≡ decodedOf b scratch) {n : ℕ}
+      (k : n ≡ vertexCountOf b) where
+    front : left ≡ loadedAfter Passed b scratch
+    front = d ∙ decoded-by scratch (sheet-passed e .0)
+
+    pub opened-row : take (n * 3) left ≡ verticesOf b
+    opened-row = ap₂ (λ (k : ℕ) (l : List ℤ). take (k * 3) l) k front ∙ loaded-row _
+
+    pub opened-room : n * 3 ≤ length left
+    opened-room = rw (k, front) (loaded-room _)

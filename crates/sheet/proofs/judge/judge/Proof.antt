@@ -2,7 +2,7 @@
 -- Assumes nothing.
 use mathlib.Core.Path.{_≡_, sym, ap₂, _∙_}
 use mathlib.Core.List.{List}
-use Prim.Native.Nat.{ℕ, _*_, _≤_}
+use Prim.Native.Nat.{_*_, _≤_}
 use borrow.Author.Needs.{needs}
 use lib.IntN.{ℤ, pos}
 use lib.ListN.{length, take, replicate}
@@ -12,11 +12,15 @@ use Rattle.polygon.specs.declared.answer.Check.the-variants.{Passed}
 use Rattle.polygon.specs.Checks.{acceptCheck}
 use Rattle.polygon.specs.Verdict.{answerOf}
 use Rattle.sheet.specs.Fields.{sheetFields}
-use Rattle.sheet.specs.Sheet.{verticesOf, sheetCheck, loadedAfter}
+use Rattle.sheet.specs.Sheet.{verticesOf, sheetCheck}
 use Rattle.sheet.specs.Judge.{sheetAnswerOf}
-use Rattle.sheet.proofs.Laws.Reads.{sheet-passed, sheet-sound, decoded-by, loaded-row, loaded-room}
+use Rattle.sheet.proofs.Laws.Reads.{sheet-passed, sheet-sound, opened-row, opened-room}
 use Rattle.sheet.proofs.judge.judge.Statement.{statement}
 use Rattle.sheet.proofs.judge.judge.Tie as tie
+
+-- The scratch space before the checks.
+abbrev zeros : List ℤ
+zeros = replicate 12288 (pos 0)
 
 passed : (c : tie.After-enum-told) → sheetCheck (c .before .before .before .before .before .args .b .now) ≡ Passed
 passed c = sym (c .before .before .«open» .ensures .0) ∙ c .enum-told .given .1
@@ -24,31 +28,21 @@ passed c = sym (c .before .before .«open» .ensures .0) ∙ c .enum-told .given
 sound : (c : tie.After-enum-told) → sheetFields (c .before .before .before .before .before .args .b .now) ≡ Passed
 sound c = sheet-sound (c .before .before .before .before .before .args .b .now) (passed c)
 
--- What the checks left in the scratch space: the vertices in front.
-front :
-    (c : tie.After-vertex-count) →
-    c .before .before .before .«open» .last .1 .0
-    ≡ loadedAfter Passed (c .before .before .before .before .before .before .args .b .now) (replicate 12288 (pos 0))
-front c =
-    let o = c .before .before .before in
-    let b = o .before .before .before .args .b .now in
-    o .«open» .ensures .1 ∙ decoded-by b _ (sheet-passed b (passed (c .before)) .0)
-
--- The part of it that is judged, and that it is there.
+-- The part of the scratch space that is judged, and that it is there.
 row :
     (c : tie.After-vertex-count) →
     take (c .vertex-count .result * 3) (c .before .before .before .«open» .last .1 .0)
     ≡ verticesOf (c .before .before .before .before .before .before .args .b .now)
 row c =
-    ap₂ (λ (k : ℕ) (l : List ℤ). take (k * 3) l) (c .vertex-count .ensures .0) (front c)
-    ∙ loaded-row (c .before .before .before .before .before .before .args .b .now) _
+    opened-row _ zeros (passed (c .before)) (c .before .before .before .«open» .ensures .1)
+    (c .vertex-count .ensures .0)
 
 room :
     (c : tie.After-vertex-count) →
     c .vertex-count .result * 3 ≤ length (c .before .before .before .«open» .last .1 .0)
 room c =
-    rw (c .vertex-count .ensures .0, front c) (loaded-room
-    (c .before .before .before .before .before .before .args .b .now) _)
+    opened-room _ zeros (passed (c .before)) (c .before .before .before .«open» .ensures .1)
+    (c .vertex-count .ensures .0)
 
 open-requires : tie.Need-open-requires
 open-requires c κs = search needs

@@ -9,22 +9,28 @@ use Rattle.zone_judge.proofs.judging.judge_pieces.Statement.{statement}
 use Rattle.zone_judge.proofs.judging.judge_pieces.Tie as tie
 
 abbrev Inv-loop : tie.InvT-loop
-Inv-loop vertices n known polygon piece₀ out₀ done₀ piece out done = (length piece ≡ 49152) × (length out ≡ 258048)
+Inv-loop vertices n known polygon piece₀ results₀ out₀ done₀ piece results out done =
+    (length piece ≡ 49152) × ((length results ≡ 49152) × (length out ≡ 258048))
 
 abbrev μ-loop : tie.MeasureT-loop
-μ-loop vertices n known polygon piece₀ out₀ done₀ piece out done = 18000000000000000000 - done
+μ-loop vertices n known polygon piece₀ results₀ out₀ done₀ piece results out done = 18000000000000000000 - done
 
 slice-aggregate-polygon : tie.Need-slice-aggregate-polygon Inv-loop μ-loop
 slice-aggregate-polygon c = sym (length-take-le _ _ (c .before .pre))
 
 loop-holds : tie.Need-loop-holds Inv-loop μ-loop
-loop-holds c = (length-replicate {A = ℕ} 49152 0, length-replicate {A = ℕ} 258048 0)
+loop-holds c =
+    let piece-length = length-replicate {A = ℕ} 49152 0 in
+    (piece-length, (piece-length, length-replicate {A = ℕ} 258048 0))
 
 slice-aggregate-judge-piece : tie.Need-slice-aggregate-judge-piece Inv-loop μ-loop
 slice-aggregate-judge-piece c = search needs
 
 slice-aggregate-judge-piece-2 : tie.Need-slice-aggregate-judge-piece-2 Inv-loop μ-loop
 slice-aggregate-judge-piece-2 c = search needs
+
+slice-aggregate-judge-piece-3 : tie.Need-slice-aggregate-judge-piece-3 Inv-loop μ-loop
+slice-aggregate-judge-piece-3 c = search needs
 
 judge-piece-requires : tie.Need-judge-piece-requires Inv-loop μ-loop
 judge-piece-requires c κs = search needs
@@ -54,6 +60,7 @@ judge-pieces-spec =
     loop-holds
     slice-aggregate-judge-piece
     slice-aggregate-judge-piece-2
+    slice-aggregate-judge-piece-3
     judge-piece-requires
     returns
     add-done

@@ -1,0 +1,64 @@
+-- The answer to a query of an accepted polygon has a number, a place and a count of 32 bits: no result loses any.
+-- Defined: Small. Proved, in order: count-bound, after-small (17 and 18), parity-small, verdict-small, answer-small.
+-- Assumes nothing.
+use mathlib.Core.Path.{_≡_, refl}
+use mathlib.Core.Bool.{Bool, true, false, cond}
+use mathlib.Core.List.{List}
+use Prim.Native.Nat.{ℕ, zero, suc, _%_, _≤_, _<_}
+use native.Mathlib.Omega.{arith}
+use lib.Dec.{eqb}
+use lib.IntN.{ℤ}
+use Rattle.sphere.specs.declared.point.Point.{Point}
+use Rattle.sphere.specs.Point.{isOffGrid}
+use Rattle.sphere.specs.Direction.{isAntipodal}
+use Rattle.polygon.specs.declared.answer.Found.{Found}
+use Rattle.polygon.specs.declared.answer.Found.the-variants.{Nothing, At}
+use Rattle.polygon.specs.declared.answer.Answer.{Answer}
+use Rattle.polygon.specs.declared.answer.Answer.the-variants.{Inside, Outside}
+use Rattle.polygon.specs.declared.answer.Check.the-variants.{Passed}
+use Rattle.polygon.specs.Answer.{numberOf, placeOf, countOf, answerAfter}
+use Rattle.polygon.specs.Search.{countFrom}
+use Rattle.polygon.specs.Vertices.{vertexCount}
+use Rattle.polygon.specs.Checks.{_then_, failsIf, acceptCheck, queryCheck, farCheck, judgeCheck}
+use Rattle.polygon.specs.Verdict.{isHeldBy, isCrossed, boundaryOf, crossingsOf, verdictBy, verdictOf, answerOf}
+use Rattle.polygon.proofs.Laws.First.{first-found}
+use Rattle.polygon.proofs.Laws.Checks.{accept-passed}
+
+pub record Small (a : Answer) : Type 0 where
+  pub number : numberOf a < 4294967296
+  pub place : placeOf a < 4294967296
+  pub count : countOf a < 4294967296
+
+-- A count is at most the number of tests.
+count-bound : (test : ℕ → Bool) (i k : ℕ) → countFrom test i k ≤ k
+unfolding countFrom
+count-bound test i zero = omega arith
+count-bound test i (suc k) = go (test i) (countFrom test (suc i) k) (count-bound test (suc i) k)
+  where
+    go : (t : Bool) (n : ℕ) → n ≤ k → cond t (suc n) n ≤ suc k
+    go true n h = omega arith
+    go false n h = omega arith
+
+after-small : (off far : Bool) {a : Answer} → Small a → Small (answerAfter (failsIf 17 off then failsIf 18 far) a)
+after-small true far s = record { number = omega arith; place = omega arith; count = omega arith }
+after-small false true s = record { number = omega arith; place = omega arith; count = omega arith }
+after-small false false s = s
+
+parity-small : (even : Bool) (n : ℕ) → n ≤ 4096 → Small (cond even (Inside n) (Outside n))
+parity-small true n h = record { number = omega arith; place = omega arith; count = omega arith }
+parity-small false n h = record { number = omega arith; place = omega arith; count = omega arith }
+
+module _ (limit : ℕ) (vs : List ℤ) (X : Point) (e : acceptCheck limit vs X ≡ Passed) (P : Point) where
+  verdict-small : (found : Found) → boundaryOf vs P ≡ found → Small (verdictBy found (crossingsOf vs X P))
+  unfolding boundaryOf crossingsOf
+  verdict-small Nothing h =
+      let n = crossingsOf vs X P in
+      let few = count-bound (isCrossed vs X P) 0 (vertexCount vs) in
+      parity-small (eqb (n % 2) 0) n (omega (arith, few, accept-passed e .listed .most))
+  verdict-small (At edge) h =
+      let low = first-found (isHeldBy vs P) 0 (vertexCount vs) edge h .below in
+      record { number = omega arith; place = omega (arith, low, accept-passed e .listed .most); count = omega arith }
+
+  pub answer-small : Small (answerOf limit vs X P)
+  unfolding answerOf judgeCheck queryCheck farCheck verdictOf
+  answer-small = rw e (after-small (isOffGrid limit P) (isAntipodal X P) (verdict-small (boundaryOf vs P) refl))

@@ -1,0 +1,71 @@
+-- Document 02, P1: a feed (any number of queries to one polygon, in one call).
+-- Defined, in order: queryCount, queryAt, neededFor, resultBytes; sizeCheck (26, 27), feedCheck (26, 27, 10 to 16),
+-- feedOf (the answer); resultOf (one query's result), resultsBytes, feedBytes (all of them), fedAfter, fedTo (the
+-- result buffer after the call). Queries and results are numbered from 0. Assumes nothing.
+use mathlib.Core.Bool.{not, cond}
+use mathlib.Core.List.{List, [], _++_}
+use Prim.Native.Nat.{ℕ, zero, suc, _*_, _/_, _%_}
+use lib.Dec.{eqb, ltb}
+use lib.IntN.{ℤ}
+use lib.ListN.{length, drop}
+use Rattle.sphere.specs.declared.point.Point.{Point}
+use Rattle.big_endian.specs.Bytes.{pointAt, wordBytes}
+use Rattle.polygon.specs.declared.answer.Answer.{Answer}
+use Rattle.polygon.specs.declared.answer.Answer.the-variants.{Done}
+use Rattle.polygon.specs.declared.answer.Check.{Check}
+use Rattle.polygon.specs.declared.answer.Check.the-variants.{Passed, Failed}
+use Rattle.polygon.specs.Answer.{numberOf, placeOf, countOf, answerAfter}
+use Rattle.polygon.specs.Checks.{_then_, failsIf, acceptCheck}
+use Rattle.polygon.specs.Verdict.{answerOf}
+
+-- ---- twelve bytes a query, twelve bytes a result
+
+abbrev pub queryCount : List ℕ → ℕ
+queryCount queries = length queries / 12
+
+abbrev pub queryAt : List ℕ → ℕ → Point
+queryAt queries i = pointAt queries (i * 12)
+
+abbrev pub neededFor : List ℕ → ℕ
+neededFor queries = queryCount queries * 12
+
+-- Number, place, count, in 32 bits each. That none of them loses any is part of specs/Claims.
+unfoldable pub resultBytes : Answer → List ℕ
+resultBytes a = wordBytes (numberOf a) ++ (wordBytes (placeOf a) ++ wordBytes (countOf a))
+
+-- ---- what is checked once, with `room` bytes for the results
+
+unfoldable pub sizeCheck : List ℕ → ℕ → Check
+sizeCheck queries room =
+    failsIf 26 (not (eqb (length queries % 12) 0))
+    then cond (ltb room (neededFor queries)) (Failed 27 (neededFor queries)) Passed
+
+unfoldable pub feedCheck : ℕ → List ℤ → Point → List ℕ → ℕ → Check
+feedCheck limit vs X queries room = sizeCheck queries room then acceptCheck limit vs X
+
+-- The feed's own answer: the first refusal, or else success.
+unfoldable pub feedOf : ℕ → List ℤ → Point → List ℕ → ℕ → Answer
+feedOf limit vs X queries room = answerAfter (feedCheck limit vs X queries room) (Done 0)
+
+-- ---- the results
+
+-- The result of query i: what the single call answers.
+abbrev pub resultOf : ℕ → List ℤ → Point → List ℕ → ℕ → List ℕ
+resultOf limit vs X queries i = resultBytes (answerOf limit vs X (queryAt queries i))
+
+-- The first n of them, in order.
+unfoldable pub resultsBytes : (ℕ → List ℕ) → ℕ → List ℕ
+resultsBytes result zero = []
+resultsBytes result (suc n) = resultsBytes result n ++ result n
+
+unfoldable pub feedBytes : ℕ → List ℤ → Point → List ℕ → List ℕ
+feedBytes limit vs X queries = resultsBytes (resultOf limit vs X queries) (queryCount queries)
+
+-- The buffer after the call: the results in front and the other bytes as they were, or all as it was.
+abbrev pub fedAfter : Check → List ℕ → List ℕ → List ℕ
+fedAfter (Failed number place) bytes buffer = buffer
+fedAfter Passed bytes buffer = bytes ++ drop (length bytes) buffer
+
+unfoldable pub fedTo : ℕ → List ℤ → Point → List ℕ → List ℕ → List ℕ
+fedTo limit vs X queries buffer =
+    fedAfter (feedCheck limit vs X queries (length buffer)) (feedBytes limit vs X queries) buffer

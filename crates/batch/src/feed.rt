@@ -1,0 +1,96 @@
+// A whole feed in one call: document 02's P1.
+// Here, in order: size_check (26, 27), feed_check (26, 27, 10 to 16), store_result, judge_one, judge_all, judge_feed.
+// Nothing of the polygon is copied for a query. Assumes nothing.
+ghost use mathlib.Core.Path.{_≡_};
+ghost use Prim.Native.Nat.{_+_, _*_, _≤_, _<_};
+ghost use lib.ListN.{length};
+ghost use lib.Seq.{sets};
+ghost use Rattle.sphere.specs.Point.{coarse};
+ghost use Rattle.polygon.specs.declared.answer.Check.the-variants.{Passed};
+ghost use Rattle.polygon.specs.Answer.{placeOf};
+ghost use Rattle.polygon.specs.Checks.{acceptCheck};
+ghost use Rattle.batch.specs.Feed.{queryCount, neededFor, resultBytes, resultOf, feedBytes, sizeCheck};
+ghost use Rattle.batch.specs.Feed.{feedCheck, feedOf, fedTo};
+use big_endian::read;
+use big_endian::store;
+use polygon::answer;
+use polygon::answer::Answer;
+use polygon::answer::Check;
+use polygon::checks::accept_check;
+use polygon::judge::judge_query;
+use sphere::point::Point;
+
+// Whole queries, and room for a result for each of them.
+pub fn size_check(queries: &[u8], room: usize) -> Check
+    ensures { λ r. ⌜ r ≡ sizeCheck (now (queries .entry)) room ⌝ }
+{
+    let needed = queries.len() / 12 * 12;
+    if queries.len() % 12 != 0 {
+        return Check::Failed(26, 0);
+    }
+    if room < needed {
+        return Check::Failed(27, needed);
+    }
+    Check::Passed
+}
+
+// All that is checked once for a feed, with `room` bytes for its results.
+pub fn feed_check(vertices: &[i32], known: Point, queries: &[u8], room: usize) -> Check
+    ensures { λ r. ⌜ r ≡ feedCheck coarse (now (vertices .entry)) known (now (queries .entry)) room ⌝ }
+{
+    match size_check(queries, room) {
+        Check::Passed => {}
+        Check::Failed(number, place) => return Check::Failed(number, place),
+    }
+    accept_check(vertices, known)
+}
+
+// Twelve bytes: number, place, count.
+fn store_result(results: &mut [u8], at: usize, answer: Answer)
+    requires { ⌜ (at + 12 ≤ length (now results)) × (placeOf answer < 4294967296) ⌝ }
+    ensures { λ _. ⌜ now (results .exit) ≡ sets (now (results .entry)) at (resultBytes answer) ⌝ }
+{
+    store::put_word(results, at, answer::number(answer));
+    store::put_word(results, at + 4, answer::place(answer) as u32);
+    store::put_word(results, at + 8, answer::count(answer))
+}
+
+// Query i and its result. A query that is refused spoils no other.
+fn judge_one(vertices: &[i32], known: Point, queries: &[u8], i: usize, results: &mut [u8])
+    requires { ⌜ (acceptCheck coarse (now vertices) known ≡ Passed) × (i < queryCount (now queries)) ⌝ }
+    requires { ⌜ neededFor (now queries) ≤ length (now results) ⌝ }
+    ensures { λ _. ⌜ now (results .exit) ≡ sets (now (results .entry)) (i * 12)
+        (resultOf coarse (now (vertices .entry)) known (now (queries .entry)) i) ⌝ }
+{
+    let at = i * 12;
+    let answer = judge_query(vertices, known, read::point_at(queries, at));
+    store_result(results, at, answer)
+}
+
+// Every query of a feed whose checks have passed.
+pub fn judge_all(vertices: &[i32], known: Point, queries: &[u8], results: &mut [u8])
+    requires { ⌜ acceptCheck coarse (now vertices) known ≡ Passed ⌝ }
+    requires { ⌜ neededFor (now queries) ≤ length (now results) ⌝ }
+    ensures { λ _. ⌜ now (results .exit) ≡ sets (now (results .entry)) 0
+        (feedBytes coarse (now (vertices .entry)) known (now (queries .entry))) ⌝ }
+{
+    let n = queries.len() / 12;
+    for i in 0..n {
+        judge_one(vertices, known, queries, i, results);
+    }
+}
+
+// The feed: any numbers and bytes. A refusal changes no byte of the results.
+pub fn judge_feed(vertices: &[i32], known: Point, queries: &[u8], results: &mut [u8]) -> Answer
+    ensures { λ r. ⌜ r ≡ feedOf coarse (now (vertices .entry)) known (now (queries .entry))
+        (length (now (results .entry))) ⌝ }
+    ensures { λ _. ⌜ now (results .exit) ≡ fedTo coarse (now (vertices .entry)) known (now (queries .entry))
+        (now (results .entry)) ⌝ }
+{
+    match feed_check(vertices, known, queries, results.len()) {
+        Check::Passed => {}
+        Check::Failed(number, place) => return Answer::Refused(number, place),
+    }
+    judge_all(vertices, known, queries, results);
+    Answer::Done(0)
+}

@@ -1,0 +1,2 @@
+// Many queries to one polygon: the polygon and its reference point are checked once. Assumes nothing.
+pub mod feed;

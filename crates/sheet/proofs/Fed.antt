@@ -1,0 +1,65 @@
+-- A feed by a sheet answers each query as the single call by the sheet does. Proved: sheet-feed-equals-single.
+-- Assumes nothing.
+use mathlib.Core.Path.{_≡_, refl, sym, subst}
+use mathlib.Core.List.{List}
+use Prim.Native.Nat.{ℕ, _*_}
+use native.Mathlib.Omega.{arith}
+use lib.ListN.{length}
+use Rattle.sphere.specs.declared.point.Point.{Point}
+use Rattle.sphere.specs.Point.{coarse}
+use Rattle.polygon.specs.declared.answer.Answer.the-variants.{Done}
+use Rattle.polygon.specs.declared.answer.Check.{Check}
+use Rattle.polygon.specs.declared.answer.Check.the-variants.{Passed, Failed}
+use Rattle.polygon.specs.Answer.{answerAfter}
+use Rattle.polygon.specs.Verdict.{answerOf}
+use Rattle.polygon.proofs.Laws.Checks.{then-passed}
+use Rattle.batch.specs.Feed.{sizeCheck, queryAt, feedBytes, fedAfter}
+use Rattle.batch.specs.Claims.{Encodes, Fed}
+use Rattle.batch.proofs.Laws.Ends.{size-passed}
+use Rattle.batch.proofs.Laws.Fed.{fed-results}
+use Rattle.sheet.specs.Sheet.{knownOf, verticesOf, sheetCheck}
+use Rattle.sheet.specs.Judge.{sheetAnswerOf, sheetFeedCheck, sheetFeedOf, sheetFedTo}
+use Rattle.sheet.specs.Claims.{SheetFed, SheetFeedEqualsSingle}
+use Rattle.sheet.proofs.Laws.Reads.{sheet-passed}
+use Rattle.sheet.proofs.Laws.Feeds.{feed-ends}
+
+-- A feed succeeds only if its checks pass.
+done-passed : (c : Check) → answerAfter c (Done 0) ≡ Done 0 → c ≡ Passed
+done-passed Passed e = refl
+done-passed (Failed n p) e = let z : _≡_ {A = ℕ} 0 1 = cc in absurd (omega arith)
+
+module _ (b queries buffer : List ℕ) (done : sheetFeedOf b queries (length buffer) ≡ Done 0) where
+  passed : (sizeCheck queries (length buffer) ≡ Passed) × (sheetCheck b ≡ Passed)
+  unfolding sheetFeedOf sheetFeedCheck
+  passed =
+      then-passed (sizeCheck queries (length buffer)) (sheetCheck b)
+      (done-passed (sheetFeedCheck b queries (length buffer)) done)
+
+  whole : sheetFeedCheck b queries (length buffer) ≡ Passed
+  unfolding sheetFeedOf
+  whole = done-passed (sheetFeedCheck b queries (length buffer)) done
+
+  -- the single call by an accepted sheet
+  single : (P : Point) → answerOf coarse (verticesOf b) (knownOf b) P ≡ sheetAnswerOf b P
+  unfolding sheetAnswerOf
+  single P = rw (passed .1)
+
+  after : List ℕ
+  after = fedAfter Passed (feedBytes coarse (verticesOf b) (knownOf b) queries) buffer
+
+  fed : Fed coarse (verticesOf b) (knownOf b) queries buffer after
+  unfolding after
+  fed =
+      fed-results coarse (verticesOf b) (knownOf b) queries buffer (size-passed queries (length buffer) (passed .0))
+      (sheet-passed b (passed .1) .1)
+
+  sheet-fed : SheetFed b queries buffer (sheetFedTo b queries buffer)
+  unfolding after
+  sheet-fed = subst (SheetFed b queries buffer) (sym (feed-ends b queries buffer whole .filled)) (record {
+    same-length = fed .same-length;
+    each = λ i h. subst (Encodes after (i * 12)) (single (queryAt queries i)) (fed .each i h);
+    rest = fed .rest;
+  })
+
+pub sheet-feed-equals-single : SheetFeedEqualsSingle
+sheet-feed-equals-single = sheet-fed
