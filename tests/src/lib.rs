@@ -24,6 +24,8 @@ mod feed;
 #[cfg(test)]
 mod known_point;
 #[cfg(test)]
+mod multiplications;
+#[cfg(test)]
 mod outlines;
 #[cfg(test)]
 mod program;

@@ -1,8 +1,8 @@
 -- Document 01, 'Points, sides, outlines': a point is three whole numbers, each at most the grid's limit in size, not
--- all zero. Defined, in order: coarse, Fits, Within, isFar, isBeyond, isNull, isOffGrid. The limit is a parameter
+-- all zero. Defined, in order: coarse, minors, Fits, Within, isFar, isBeyond, isNull, isOffGrid. The limit is a parameter
 -- everywhere, because document 02 has a second grid. Assumes nothing.
 use mathlib.Core.Bool.{Bool, _&&_, _||_}
-use Prim.Native.Nat.{ℕ, _≤_}
+use Prim.Native.Nat.{ℕ, _+_, _*_, _≤_}
 use lib.Dec.{ltb}
 use lib.IntN.{ℤ, natAbs}
 use Rattle.integers.specs.Sign.{signOf, isZero}
@@ -11,6 +11,10 @@ use Rattle.sphere.specs.declared.point.Point.{Point}
 -- The limit of document 01's grid, 2^20.
 abbrev pub coarse : ℕ
 coarse = 1048576
+
+-- The limit of a component of the cross product of two points within a limit.
+abbrev pub minors : ℕ → ℕ
+minors limit = limit * limit + limit * limit
 
 -- A number within the limit, and a point whose three numbers are.
 pub record Fits (limit : ℕ) (k : ℤ) : Type 0 where

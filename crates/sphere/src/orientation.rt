@@ -2,31 +2,16 @@
 // Here, in order: orientation, cross, dot. Document 01, 'Points, sides, outlines'. The points are within the grid, so
 // that no product or sum wraps. Assumes nothing.
 ghost use mathlib.Core.Path.{_≡_};
-ghost use Rattle.sphere.specs.Point.{coarse, Within};
+ghost use Rattle.sphere.specs.Point.{coarse, minors, Within};
 ghost use Rattle.sphere.specs.Orientation.{orientationOf, crossOf, dotOf};
 use crate::point::Point;
 
-// Document 01: the turn, with its products as written there.
+// Document 01: the turn. Its twelve products are worked out as a cross and a dot product, nine multiplications in all.
 pub fn orientation(a: Point, b: Point, c: Point) -> i64
     requires { ⌜ Within coarse a × Within coarse b × Within coarse c ⌝ }
     ensures { λ r. ⌜ r ≡ orientationOf a b c ⌝ }
 {
-    let Point {
-        x: ax,
-        y: ay,
-        z: az,
-    } = a;
-    let Point {
-        x: bx,
-        y: by,
-        z: bz,
-    } = b;
-    let Point {
-        x: cx,
-        y: cy,
-        z: cz,
-    } = c;
-    ax * by * cz + ay * bz * cx + az * bx * cy - ax * bz * cy - ay * bx * cz - az * by * cx
+    dot(cross(a, b), c)
 }
 
 pub fn cross(a: Point, b: Point) -> Point
@@ -50,8 +35,9 @@ pub fn cross(a: Point, b: Point) -> Point
     }
 }
 
+// The first vector may be a cross product: with the normal of a and b at hand, one dot product is the orientation.
 pub fn dot(a: Point, b: Point) -> i64
-    requires { ⌜ Within coarse a × Within coarse b ⌝ }
+    requires { ⌜ Within (minors coarse) a × Within coarse b ⌝ }
     ensures { λ r. ⌜ r ≡ dotOf a b ⌝ }
 {
     let Point {

@@ -1,6 +1,6 @@
 -- `dot` meets its contract: each need says that one part of the formula fits. Assumes nothing.
 use Rattle.integers.proofs.Range.{Formula, _⊗_, _⊕_, formula-fits, formula-same}
-use Rattle.sphere.specs.Point.{coarse, Within}
+use Rattle.sphere.specs.Point.{coarse, minors, Within}
 use Rattle.sphere.specs.Orientation.{dotOf}
 use Rattle.sphere.proofs.Numbers.{x-of, y-of, z-of}
 use Rattle.sphere.proofs.orientation.dot.Statement.{statement}
@@ -11,7 +11,7 @@ module _ (c : tie.After-struct-told6) where
   abbrev start : tie.Start
   start = c .before .before .before .before .before .before
 
-  abbrev A : Within coarse (start .args .a)
+  abbrev A : Within (minors coarse) (start .args .a)
   A = start .pre .0
 
   abbrev B : Within coarse (start .args .b)

@@ -1,115 +1,32 @@
--- `orientation` meets its contract: each need says that one part of document 01's formula fits. A product of three
--- numbers of the grid is at most 2^60 in size, and the sum 6 · 2^60. Assumes nothing.
-use Rattle.integers.proofs.Range.{Formula, _⊗_, _⊕_, _⊖_, formula-fits, formula-same}
-use Rattle.sphere.specs.Point.{coarse, Within}
-use Rattle.sphere.specs.Orientation.{orientationOf}
-use Rattle.sphere.proofs.Numbers.{x-of, y-of, z-of}
+-- `orientation` meets its contract: the cross and the dot product together are document 01's twelve products, by one
+-- identity. Assumes nothing.
+use mathlib.Core.Path.{sym, _∙_, ap, subst}
+use borrow.Author.Needs.{needs}
+use mir.Syntax.{w64}
+use Rattle.integers.proofs.Compare.{result-same}
+use Rattle.sphere.specs.Point.{coarse, minors, Within}
+use Rattle.sphere.specs.Orientation.{dotOf}
+use Rattle.sphere.proofs.Laws.Grid.{cross-within}
+use Rattle.sphere.proofs.Laws.Orientation.{orientation-cross, dot-comm}
 use Rattle.sphere.proofs.orientation.orientation.Statement.{statement}
 use Rattle.sphere.proofs.orientation.orientation.Tie as tie
 
--- All needs are asked at one place, after the nine numbers were read: A, B and C there, and the sums in their order.
-module _ (c : tie.After-struct-told9) where
-  abbrev start : tie.Start
-  start = c .before .before .before .before .before .before .before .before .before
+cross-requires : tie.Need-cross-requires
+cross-requires c κs = search needs
 
-  abbrev A : Within coarse (start .args .a)
-  A = start .pre .0
-
-  abbrev B : Within coarse (start .args .b)
-  B = start .pre .1
-
-  abbrev C : Within coarse (start .args .c)
-  C = start .pre .2
-
-  abbrev two : Formula
-  two = x-of A ⊗ y-of B ⊗ z-of C ⊕ y-of A ⊗ z-of B ⊗ x-of C
-
-  abbrev three : Formula
-  three = two ⊕ z-of A ⊗ x-of B ⊗ y-of C
-
-  abbrev four : Formula
-  four = three ⊖ x-of A ⊗ z-of B ⊗ y-of C
-
-  abbrev five : Formula
-  five = four ⊖ y-of A ⊗ x-of B ⊗ z-of C
-
-  abbrev six : Formula
-  six = five ⊖ z-of A ⊗ y-of B ⊗ x-of C
-
-mul-result : tie.Need-mul-result
-mul-result c = formula-fits (x-of (A c) ⊗ y-of (B c)) tt
-
-mul-result-2 : tie.Need-mul-result-2
-mul-result-2 c = formula-fits (x-of (A c) ⊗ y-of (B c) ⊗ z-of (C c)) tt
-
-mul-result-3 : tie.Need-mul-result-3
-mul-result-3 c = formula-fits (y-of (A c) ⊗ z-of (B c)) tt
-
-mul-result-4 : tie.Need-mul-result-4
-mul-result-4 c = formula-fits (y-of (A c) ⊗ z-of (B c) ⊗ x-of (C c)) tt
-
-add-result : tie.Need-add-result
-add-result c = formula-fits (two c) tt
-
-mul-result-5 : tie.Need-mul-result-5
-mul-result-5 c = formula-fits (z-of (A c) ⊗ x-of (B c)) tt
-
-mul-result-6 : tie.Need-mul-result-6
-mul-result-6 c = formula-fits (z-of (A c) ⊗ x-of (B c) ⊗ y-of (C c)) tt
-
-add-result-2 : tie.Need-add-result-2
-add-result-2 c = formula-fits (three c) tt
-
-mul-result-7 : tie.Need-mul-result-7
-mul-result-7 c = formula-fits (x-of (A c) ⊗ z-of (B c)) tt
-
-mul-result-8 : tie.Need-mul-result-8
-mul-result-8 c = formula-fits (x-of (A c) ⊗ z-of (B c) ⊗ y-of (C c)) tt
-
-sub-result : tie.Need-sub-result
-sub-result c = formula-fits (four c) tt
-
-mul-result-9 : tie.Need-mul-result-9
-mul-result-9 c = formula-fits (y-of (A c) ⊗ x-of (B c)) tt
-
-mul-result-10 : tie.Need-mul-result-10
-mul-result-10 c = formula-fits (y-of (A c) ⊗ x-of (B c) ⊗ z-of (C c)) tt
-
-sub-result-2 : tie.Need-sub-result-2
-sub-result-2 c = formula-fits (five c) tt
-
-mul-result-11 : tie.Need-mul-result-11
-mul-result-11 c = formula-fits (z-of (A c) ⊗ y-of (B c)) tt
-
-mul-result-12 : tie.Need-mul-result-12
-mul-result-12 c = formula-fits (z-of (A c) ⊗ y-of (B c) ⊗ x-of (C c)) tt
-
-sub-result-3 : tie.Need-sub-result-3
-sub-result-3 c = formula-fits (six c) tt
+dot-requires : tie.Need-dot-requires
+dot-requires c κs =
+    let start = c .before in (
+      subst (λ n. Within (minors coarse) n) (sym (c .cross .ensures))
+          (cross-within (start .args .a) (start .args .b) (start .pre .0) (start .pre .1)),
+      start .pre .2,
+    )
 
 returns : tie.Need-returns
-unfolding orientationOf
-returns c = formula-same (six c) tt
+returns c =
+    let s = c .before .before .args in
+    result-same w64 (c .dot .result) (c .dot .ok) (c .dot .ensures) ∙ ap (λ n. dotOf n (s .c)) (c .before .cross .ensures)
+    ∙ dot-comm _ (s .c) ∙ sym (orientation-cross (s .a) (s .b) (s .c))
 
 pub orientation-spec : {M : Type 1} → statement M
-orientation-spec =
-    tie.close
-    (tie.spec
-    mul-result
-    mul-result-2
-    mul-result-3
-    mul-result-4
-    add-result
-    mul-result-5
-    mul-result-6
-    add-result-2
-    mul-result-7
-    mul-result-8
-    sub-result
-    mul-result-9
-    mul-result-10
-    sub-result-2
-    mul-result-11
-    mul-result-12
-    sub-result-3
-    returns)
+orientation-spec = tie.close (tie.spec cross-requires dot-requires returns)

@@ -1,0 +1,25 @@
+//! Request P5: the orientation multiplies nine times. Counted in the compiler's intermediate form, calls included.
+
+use crate::host::{command, output_of, repository};
+
+/// The text of one function.
+fn body<'a>(mir: &'a str, name: &str) -> &'a str {
+    let head = format!("(fn-def \"{name}\"");
+    let at = mir.find(&head).unwrap_or_else(|| panic!("no function {name}")) + head.len();
+    let rest = &mir[at..];
+    &rest[..rest.find("(fn-def \"").unwrap_or(rest.len())]
+}
+
+fn multiplications(mir: &str, name: &str) -> usize {
+    let body = body(mir, name);
+    let callees = body.split("(direct (fnRef \"").skip(1);
+    let called: usize =
+        callees.map(|call| multiplications(mir, &call[..call.find('"').expect("name")])).sum();
+    body.matches("(op2 (mul ").count() + called
+}
+
+#[test]
+fn orientation_multiplies_nine_times() {
+    let mir = output_of(command("rt", ["mir", "sphere"]).current_dir(repository(".")), &[]);
+    assert_eq!(multiplications(&mir, "sphere::orientation::orientation"), 9);
+}
