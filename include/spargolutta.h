@@ -83,6 +83,17 @@ enum spg_number {
 uint32_t spg_judge_number(const uint8_t *sheet, size_t sheet_len, int32_t x, int32_t y, int32_t z);
 size_t spg_judge_place(const uint8_t *sheet, size_t sheet_len, int32_t x, int32_t y, int32_t z);
 uint32_t spg_judge_count(const uint8_t *sheet, size_t sheet_len, int32_t x, int32_t y, int32_t z);
+/*
+ * spg_judge_sum: which way the sides were crossed, for the same arguments. 1 for each side AB that the arc from the
+ * known point X to the query P crosses with turn(A,B,X) < 0 < turn(A,B,P), -1 for each that it crosses with
+ * turn(A,B,P) < 0 < turn(A,B,X), added up over all sides; 0 for boundary and refusals. It is odd exactly when the count
+ * is, and reversing the list of vertices negates it.
+ *
+ * It is good for drawing: it is the winding of document 003, how many times more the outline goes round P than round X,
+ * counterclockwise as seen from outside the globe. The verdict does not use it: inside and outside go by the count
+ * alone. A feed's results do not have it.
+ */
+int32_t spg_judge_sum(const uint8_t *sheet, size_t sheet_len, int32_t x, int32_t y, int32_t z);
 
 /*
  * spg_feed_number, spg_feed_place, spg_feed_count: any number of queries, one sheet. The sheet is checked once.

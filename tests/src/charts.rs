@@ -11,6 +11,8 @@ struct Chart {
     query: Point,
     /// Number, place, count.
     answer: (u32, usize, u32),
+    /// Document 02's sum, worked out by hand.
+    sum: i32,
 }
 
 fn chart(
@@ -20,15 +22,23 @@ fn chart(
     query: Point,
     answer: (u32, usize, u32),
 ) -> Chart {
-    Chart { case, vertices: vertices.to_vec(), known, query, answer }
+    Chart { case, vertices: vertices.to_vec(), known, query, answer, sum: 0 }
+}
+
+impl Chart {
+    fn sum(self, sum: i32) -> Chart {
+        Chart { sum, ..self }
+    }
 }
 
 fn all_give(charts: &[Chart]) {
-    for Chart { case, vertices, known, query, answer: (number, place, count) } in charts {
+    for Chart { case, vertices, known, query, answer: (number, place, count), sum } in charts {
         let expected = Answer { number: *number, place: *place, count: *count };
         let sheet = Sheet::new(*known, vertices).bytes();
         assert_eq!(reference::judge(&sheet, *query), expected, "{case}: reference");
         assert_eq!(library::judge(&sheet, *query), expected, "{case}: library");
+        assert_eq!(reference::sum(&sheet, *query), *sum, "{case}: the reference's sum");
+        assert_eq!(library::sum(&sheet, *query), *sum, "{case}: the library's sum");
     }
     println!("charts: {} compared", charts.len());
 }
@@ -43,16 +53,16 @@ fn k1_to_k14() {
         chart("K2", &OCTANT, [1, 1, 1], [3, 2, 1], (1, 0, 0)),
         chart("K3", &OCTANT, [1, 1, 1], [1, 1, 0], (3, 0, 0)),
         chart("K4", &OCTANT, [1, 1, 1], [1, 0, 0], (3, 0, 0)),
-        chart("K5", &OCTANT, [1, 1, 1], [1, 1, -1], (2, 0, 1)),
-        chart("K6", &OCTANT, [1, 1, 1], [-1, -1, 1], (2, 0, 1)),
-        chart("K7", &OCTANT, [1, 1, 1], [-1, 1, 0], (2, 0, 1)),
+        chart("K5", &OCTANT, [1, 1, 1], [1, 1, -1], (2, 0, 1)).sum(-1),
+        chart("K6", &OCTANT, [1, 1, 1], [-1, -1, 1], (2, 0, 1)).sum(-1),
+        chart("K7", &OCTANT, [1, 1, 1], [-1, 1, 0], (2, 0, 1)).sum(-1),
         chart("K8", &OCTANT, [1, 1, 1], [-1, -1, -1], (18, 0, 0)),
         chart("K9", &OCTANT, [1, -1, 0], [1, 1, 1], (16, 0, 0)),
         chart("K10", &same, [1, 1, 1], [1, 1, 1], (13, 0, 0)),
-        chart("K11", &OCTANT, [3, 2, 1], [-1, -1, 1], (2, 0, 1)),
-        chart("K12", &OCTANT, [1, 1, -1], [3, 2, 1], (2, 0, 1)),
+        chart("K11", &OCTANT, [3, 2, 1], [-1, -1, 1], (2, 0, 1)).sum(-1),
+        chart("K12", &OCTANT, [1, 1, -1], [3, 2, 1], (2, 0, 1)).sum(1),
         chart("K13", &corner, [-2, 0, 1], [2, 0, 1], (1, 0, 2)),
-        chart("K14", &below, [1, 1, -1], [0, 0, 1], (2, 0, 1)),
+        chart("K14", &below, [1, 1, -1], [0, 0, 1], (2, 0, 1)).sum(-1),
     ]);
 }
 
@@ -91,6 +101,30 @@ fn fan(n: usize) -> Vec<Point> {
     let mut vertices: Vec<Point> = (0..n).map(|i| OCTANT[i % 2]).collect();
     vertices[n - 1] = OCTANT[2];
     vertices
+}
+
+/// Document 02, P6. The third test case of 003 put on the grid goes round (1,1,0) twice, the same way:
+/// from (1,1,3), outside, both crossings (sides 4 and 9) are of the first pattern. From (1,1,0) both
+/// are of the second. On the boundary the sum is 0, also past side 0 of the octant.
+#[test]
+fn sums() {
+    let wound = [
+        [8, 7, 4],
+        [7, 4, 5],
+        [1, 0, 0],
+        [7, 4, -5],
+        [4, 7, 0],
+        [8, 7, 4],
+        [7, 4, 0],
+        [4, 7, -5],
+        [0, 1, 0],
+        [4, 7, 5],
+    ];
+    all_give(&[
+        chart("003, test case 3", &wound, [1, 1, 3], [1, 1, 0], (1, 0, 2)).sum(2),
+        chart("003, test case 3, outwards", &wound, [1, 1, 0], [1, 1, 3], (1, 0, 2)).sum(-2),
+        chart("boundary past a side", &OCTANT, [1, 1, -1], [0, 1, 1], (3, 1, 0)),
+    ]);
 }
 
 #[test]

@@ -1,5 +1,5 @@
-//! One comparison: the library's three calls against the reference, and the sheet's bytes before and
-//! after.
+//! One comparison: the library's calls for one query against the reference, and the sheet's bytes
+//! before and after.
 
 use crate::{library, reference, Answer, Point};
 use std::collections::BTreeMap;
@@ -12,6 +12,7 @@ impl Tally {
     pub fn compare(&mut self, sheet: &[u8], query: Point) {
         let lent = sheet.to_vec();
         let found = library::judge(&lent, query);
+        expect_sum(sheet, query, library::sum(&lent, query));
         assert!(lent == sheet, "the sheet's bytes changed{}", case(sheet, query));
         expect(sheet, query, found);
         self.count(found.number);
@@ -38,6 +39,12 @@ pub fn expect(sheet: &[u8], query: Point, found: Answer) {
     let expected = reference::judge(sheet, query);
     let case = || case(sheet, query);
     assert!(found == expected, "{}\n    library   {found:?}\n    reference {expected:?}", case());
+}
+
+/// The same of the sum.
+pub fn expect_sum(sheet: &[u8], query: Point, found: i32) {
+    let expected = reference::sum(sheet, query);
+    assert!(found == expected, "{}\n    sum {found}, not {expected}", case(sheet, query));
 }
 
 fn case(sheet: &[u8], query: Point) -> String {

@@ -29,6 +29,8 @@ mod multiplications;
 mod outlines;
 #[cfg(test)]
 mod program;
+#[cfg(test)]
+mod winding;
 
 /// A point as a caller hands it over: any three numbers, on the grid or not.
 pub type Point = [i32; 3];

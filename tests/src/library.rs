@@ -60,3 +60,12 @@ pub fn feed_count(sheet: &[u8], queries: &[u8], room: usize) -> u32 {
 pub fn judge(sheet: &[u8], query: Point) -> Answer {
     Answer { number: number(sheet, query), place: place(sheet, query), count: count(sheet, query) }
 }
+
+extern "C" {
+    fn spg_judge_sum(sheet: *const u8, sheet_len: usize, x: i32, y: i32, z: i32) -> i32;
+}
+
+/// Document 02's P6: the sum has a call of its own.
+pub fn sum(sheet: &[u8], [x, y, z]: Point) -> i32 {
+    unsafe { spg_judge_sum(sheet.as_ptr(), sheet.len(), x, y, z) }
+}

@@ -65,12 +65,19 @@ fn on_side((a, b): (Vector, Vector), p: Vector) -> bool {
 
 // When the arc crosses a side
 
-fn crosses(x: Vector, p: Vector, (a, b): (Vector, Vector)) -> bool {
+/// P6: 1 for the first pattern, -1 for the second and 0 otherwise.
+fn crossing(x: Vector, p: Vector, (a, b): (Vector, Vector)) -> i32 {
     let s1 = turn(x, p, a);
     let s2 = turn(x, p, b);
     let s3 = turn(a, b, x);
     let s4 = turn(a, b, p);
-    (s1 >= 0 && s2 < 0 && s3 < 0 && s4 > 0) || (s1 < 0 && s2 >= 0 && s3 > 0 && s4 < 0)
+    if s1 >= 0 && s2 < 0 && s3 < 0 && s4 > 0 {
+        1
+    } else if s1 < 0 && s2 >= 0 && s3 > 0 && s4 < 0 {
+        -1
+    } else {
+        0
+    }
 }
 
 // What comes back
@@ -120,7 +127,7 @@ fn verdict(vertices: &[Vector], known: Vector, query: Vector) -> Answer {
     if let Some(i) = sides.iter().position(|&side| on_side(side, query)) {
         return answer(3, i, 0);
     }
-    let crossed = sides.iter().filter(|&&side| crosses(known, query, side)).count() as u32;
+    let crossed = sides.iter().filter(|&&side| crossing(known, query, side) != 0).count() as u32;
     answer(if crossed % 2 == 0 { 1 } else { 2 }, 0, crossed)
 }
 
@@ -182,6 +189,16 @@ pub fn judge(sheet: &[u8], query: Point) -> Answer {
     match read(sheet) {
         Ok((known, vertices)) => verdict(&vertices, known, vector(query)),
         Err(refusal) => refusal,
+    }
+}
+
+/// P6: the sum over all sides, 0 for boundary and refusals.
+pub fn sum(sheet: &[u8], query: Point) -> i32 {
+    match (judge(sheet, query).number, read(sheet)) {
+        (1 | 2, Ok((known, vertices))) => {
+            sides(&vertices).iter().map(|&side| crossing(known, vector(query), side)).sum()
+        }
+        _ => 0,
     }
 }
 

@@ -1,9 +1,11 @@
 -- Laws of tests: Boolean values that a check computes, read as facts by `T` of lib.Dec.
 -- Defined: both (a conjunction whose second part is a function, so that it costs nothing where the first part fails).
--- Proved, in order: both-l, both-r, and-l, and-r, unless, not-true, same-bool. Assumes nothing.
+-- Also: isSameSign. Proved, in order: both-l, both-r, and-l, and-r, unless, not-true, same-bool, same-sign.
+-- Assumes nothing.
 use mathlib.Core.Path.{_≡_, refl}
 use mathlib.Core.Bool.{Bool, true, false, not, _&&_, _||_, Bool·beq, true≢false}
 use lib.Dec.{T}
+use Rattle.integers.specs.Sign.{Sign, negative, nought, positive, isNegative, isZero, isPositive}
 
 abbrev pub both : Bool → (Unit {0} → Bool) → Bool
 both true k = k tt
@@ -38,3 +40,20 @@ same-bool true true t = refl
 same-bool true false t = absurd t
 same-bool false true t = absurd t
 same-bool false false t = refl
+
+-- Two signs are one.
+abbrev pub isSameSign : Sign → Sign → Bool
+isSameSign negative t = isNegative t
+isSameSign nought t = isZero t
+isSameSign positive t = isPositive t
+
+pub same-sign : (s t : Sign) → T (isSameSign s t) → s ≡ t
+same-sign negative negative t = refl
+same-sign negative nought t = absurd t
+same-sign negative positive t = absurd t
+same-sign nought negative t = absurd t
+same-sign nought nought t = refl
+same-sign nought positive t = absurd t
+same-sign positive negative t = absurd t
+same-sign positive nought t = absurd t
+same-sign positive positive t = refl

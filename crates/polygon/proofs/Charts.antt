@@ -4,18 +4,19 @@ use mathlib.Core.Path.{refl}
 use Rattle.sphere.specs.Point.{isFar, isBeyond, isNull, isOffGrid}
 use Rattle.sphere.specs.Orientation.{orientationOf, crossOf, dotOf}
 use Rattle.sphere.specs.Direction.{isSameDirection, isAntipodal}
-use Rattle.sphere.specs.Crossing.{crossesOf}
+use Rattle.sphere.specs.Crossing.{crossingOf}
 use Rattle.sphere.specs.OnEdge.{isOnEdge}
-use Rattle.polygon.specs.Search.{firstFrom, countFrom}
+use Rattle.polygon.specs.Search.{firstFrom, countFrom, sumFrom}
 use Rattle.polygon.specs.Vertices.{vertexAt, nextOf}
 use Rattle.polygon.specs.Checks.{listCheck, beyondCheck, nullCheck, sameCheck, antipodalCheck, referenceCheck}
 use Rattle.polygon.specs.Checks.{circleCheck, queryCheck, farCheck, polygonCheck, acceptCheck, judgeCheck}
-use Rattle.polygon.specs.Verdict.{boundaryOf, crossingsOf, verdictOf, answerOf}
+use Rattle.polygon.specs.Verdict.{boundaryOf, crossingsOf, windingOf, verdictOf, answerOf}
 use Rattle.polygon.specs.Charts.{charts}
 use Rattle.polygon.specs.Claims.{ChartsHold}
 
 pub charts-right : ChartsHold
 unfolding charts answerOf judgeCheck acceptCheck polygonCheck listCheck beyondCheck nullCheck sameCheck antipodalCheck
-    referenceCheck circleCheck queryCheck farCheck verdictOf boundaryOf crossingsOf firstFrom countFrom vertexAt
-    nextOf isOffGrid isBeyond isFar isNull isSameDirection isAntipodal crossesOf isOnEdge orientationOf crossOf dotOf
+    referenceCheck circleCheck queryCheck farCheck verdictOf boundaryOf crossingsOf windingOf firstFrom countFrom
+    sumFrom vertexAt nextOf isOffGrid isBeyond isFar isNull isSameDirection isAntipodal crossingOf isOnEdge
+    orientationOf crossOf dotOf
 charts-right = refl

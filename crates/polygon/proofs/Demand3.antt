@@ -21,7 +21,8 @@ use Rattle.polygon.specs.declared.answer.Check.the-variants.{Passed}
 use Rattle.polygon.specs.Vertices.{vertexCount, startOf, endOf}
 use Rattle.polygon.specs.Answer.{numberOf, placeOf}
 use Rattle.polygon.specs.Checks.{acceptCheck, queryCheck, farCheck, judgeCheck}
-use Rattle.polygon.specs.Verdict.{isHeldBy, isCrossed, boundaryOf, crossingsOf, verdictBy, verdictOf, answerOf}
+use Rattle.polygon.specs.Verdict.{isHeldBy, isCrossed, boundaryOf, crossingsOf, windingOf, verdictBy}
+use Rattle.polygon.specs.Verdict.{verdictOf, answerOf}
 use Rattle.polygon.specs.Claims.{exchanged, SameVerdict, Demand3}
 use Rattle.polygon.proofs.Laws.Search.{first-none}
 use Rattle.polygon.proofs.Laws.First.{none-first}
@@ -34,18 +35,19 @@ abbrev numberBy : Found → Bool → ℕ
 numberBy (At edge) odd = 3
 numberBy Nothing odd = cond odd 2 1
 
-number-by : (f : Found) (c : ℕ) (odd : Bool) → c % 2 ≡ cond odd 1 0 → numberOf (verdictBy f c) ≡ numberBy f odd
-number-by (At edge) c odd h = refl
-number-by Nothing c true h = rw h
-number-by Nothing c false h = rw h
+number-by : (f : Found) (c : ℕ) (s : ℤ) (odd : Bool) → c % 2 ≡ cond odd 1 0 →
+    numberOf (verdictBy f c s) ≡ numberBy f odd
+number-by (At edge) c s odd h = refl
+number-by Nothing c s true h = rw h
+number-by Nothing c s false h = rw h
 
-place-by : (f : Found) (c d : ℕ) → placeOf (verdictBy f c) ≡ placeOf (verdictBy f d)
-place-by (At edge) c d = refl
-place-by Nothing c d = nowhere (eqb (c % 2) 0) c ∙ sym (nowhere (eqb (d % 2) 0) d)
+place-by : (f : Found) (c d : ℕ) (s t : ℤ) → placeOf (verdictBy f c s) ≡ placeOf (verdictBy f d t)
+place-by (At edge) c d s t = refl
+place-by Nothing c d s t = nowhere (eqb (c % 2) 0) c s ∙ sym (nowhere (eqb (d % 2) 0) d t)
   where
-    nowhere : (b : Bool) (c : ℕ) → placeOf (cond b (Inside c) (Outside c)) ≡ 0
-    nowhere true c = refl
-    nowhere false c = refl
+    nowhere : (b : Bool) (c : ℕ) (s : ℤ) → placeOf (cond b (Inside c s) (Outside c s)) ≡ 0
+    nowhere true c s = refl
+    nowhere false c s = refl
 
 larger : (m n : ℕ) → m < n → n ≡ m → ⊥
 larger m n h e = omega arith
@@ -66,7 +68,8 @@ module _ (limit : ℕ) (vs : List ℤ) (X P : Point) where
   unfolding verdictOf crossingsOf
   number-judged h =
       ap numberOf (answer-judged h)
-      ∙ number-by (boundaryOf vs P) (crossingsOf vs X P) (arc vs X P) (count-odd (isCrossed vs X P) 0 (vertexCount vs))
+      ∙ number-by (boundaryOf vs P) (crossingsOf vs X P) (windingOf vs X P) (arc vs X P)
+      (count-odd (isCrossed vs X P) 0 (vertexCount vs))
 
 -- ---- a point that is accepted as reference
 module _ (limit : ℕ) (vs : List ℤ) where
@@ -146,7 +149,7 @@ module _ (limit : ℕ) (vs : List ℤ) (X Y P : Point) (x : acceptCheck limit vs
         from-Y ∙ three-exchanged (boundaryOf vs P) (arc vs X Y) (arc vs X P) (arc vs Y P) (sum (c .near)) (c .parity)
         ∙ ap exchanged (sym from-X);
     place = ap placeOf (answer-judged limit vs Y P (judge-passed limit vs Y P y p nearYP))
-        ∙ place-by (boundaryOf vs P) (crossingsOf vs Y P) (crossingsOf vs X P)
+        ∙ place-by (boundaryOf vs P) (crossingsOf vs Y P) (crossingsOf vs X P) (windingOf vs Y P) (windingOf vs X P)
         ∙ sym (ap placeOf (answer-judged limit vs X P (judge-passed limit vs X P x p nearXP)));
   }
 

@@ -2,4 +2,6 @@
 pub mod Search
 pub mod First
 pub mod Count
+pub mod Sum
+pub mod Reversed
 pub mod Checks

@@ -3,4 +3,5 @@ pub mod Laws
 pub mod Potential
 pub mod Demand3
 pub mod Demand2
+pub mod Winding
 pub mod Claims

@@ -1,19 +1,27 @@
--- Document 01, 'Charts to test against': the cases K1 to K14, as one table. Defined, in order: Chart, octant,
--- touched, cornered, charts, isRight, areRight. Claims.ChartsHold says that the table is right. Assumes nothing.
+-- Document 01, 'Charts to test against': the cases K1 to K14, as one table, with document 02's sums (P6), and a row
+-- whose sum is 2. Defined, in order: Chart, octant, doubled, touched, cornered, wound, charts, isRight, areRight.
+-- Claims.ChartsHold says that the table is right.
+-- The sums, worked out by hand from document 01's patterns. The octant's edges have the octant on their positive side:
+-- s3 > 0 from a known point in it, so only the second pattern can hold, and K5 (edge 0), K6 (edge 1), K7 (edge 1) and
+-- K11 (edge 2) have sum -1: s1, s2, s3, s4 are -2, 2, 1, -1 in K5, -2, 0, 1, -1 in K6, -1, 2, 1, -1 in K7 and
+-- -1, 3, 2, -1 in K11. K12 goes in from outside, by edge 0: 3, -4, -1, 1, the first pattern, so its sum is 1, the other
+-- sign. K13 crosses edge 0 by the second (-8, 0, 4, -4) and edge 1 by the first (0, -8, -4, 4): the sum is 0, and the
+-- count 2. K14 crosses edge 2 by the second (-1, 1, 1, -1): -1. Assumes nothing.
 use mathlib.Core.Bool.{Bool, true, _&&_}
 use mathlib.Core.List.{List, [], _∷_}
 use Prim.Native.Nat.{ℕ}
 use lib.Dec.{eqb}
-use lib.IntN.{ℤ, pos, negℤ}
+use lib.IntN.{ℤ, pos, negℤ, _-ℤ_}
+use Rattle.integers.specs.Sign.{signOf, isZero}
 use Rattle.sphere.specs.declared.point.Point.{Point}
 use Rattle.sphere.specs.Point.{coarse}
 use Rattle.polygon.specs.declared.answer.Answer.{Answer}
-use Rattle.polygon.specs.Answer.{numberOf, placeOf, countOf}
+use Rattle.polygon.specs.Answer.{numberOf, placeOf, countOf, sumOf}
 use Rattle.polygon.specs.Verdict.{answerOf}
 
--- A vertex list, the reference point, the query, and the number, place and count that document 01 gives.
+-- A vertex list, the reference point, the query, and the number, place and count that document 01 gives; the sum.
 pub data Chart : Type 0 where
-  chart : List ℤ → Point → Point → ℕ → ℕ → ℕ → Chart
+  chart : List ℤ → Point → Point → ℕ → ℕ → ℕ → ℤ → Chart
 
 abbrev + : ℕ → ℤ
 + n = pos n
@@ -39,33 +47,42 @@ touched = - 4 ∷ - 2 ∷ + 1 ∷ + 0 ∷ + 0 ∷ + 1 ∷ + 4 ∷ - 2 ∷ + 1 �
 abbrev cornered : List ℤ
 cornered = + 1 ∷ + 0 ∷ + 0 ∷ + 0 ∷ + 0 ∷ - 1 ∷ + 0 ∷ + 1 ∷ + 0 ∷ []
 
+-- Document 003's third test case on the grid: the outline goes twice round (1,1,0), the same way. From (1,1,3),
+-- outside, the arc crosses edge 4 (9, -3, -72, 12) and edge 9 (9, -3, -67, 17) by the first pattern: the sum is 2.
+abbrev wound : List ℤ
+wound =
+    + 8 ∷ + 7 ∷ + 4 ∷ + 7 ∷ + 4 ∷ + 5 ∷ + 1 ∷ + 0 ∷ + 0 ∷ + 7 ∷ + 4 ∷ - 5 ∷ + 4 ∷ + 7 ∷ + 0
+    ∷ + 8 ∷ + 7 ∷ + 4 ∷ + 7 ∷ + 4 ∷ + 0 ∷ + 4 ∷ + 7 ∷ - 5 ∷ + 0 ∷ + 1 ∷ + 0 ∷ + 4 ∷ + 7 ∷ + 5 ∷ []
+
 abbrev centre : Point
 centre = at (+ 1) (+ 1) (+ 1)
 
 unfoldable pub charts : List Chart
 charts =
-    chart octant centre centre 1 0 0
-    ∷ chart octant centre (at (+ 3) (+ 2) (+ 1)) 1 0 0
-    ∷ chart octant centre (at (+ 1) (+ 1) (+ 0)) 3 0 0
-    ∷ chart octant centre (at (+ 1) (+ 0) (+ 0)) 3 0 0
-    ∷ chart octant centre (at (+ 1) (+ 1) (- 1)) 2 0 1
-    ∷ chart octant centre (at (- 1) (- 1) (+ 1)) 2 0 1
-    ∷ chart octant centre (at (- 1) (+ 1) (+ 0)) 2 0 1
-    ∷ chart octant centre (at (- 1) (- 1) (- 1)) 18 0 0
-    ∷ chart octant (at (+ 1) (- 1) (+ 0)) centre 16 0 0
-    ∷ chart doubled centre centre 13 0 0
-    ∷ chart octant (at (+ 3) (+ 2) (+ 1)) (at (- 1) (- 1) (+ 1)) 2 0 1
-    ∷ chart octant (at (+ 1) (+ 1) (- 1)) (at (+ 3) (+ 2) (+ 1)) 2 0 1
-    ∷ chart touched (at (- 2) (+ 0) (+ 1)) (at (+ 2) (+ 0) (+ 1)) 1 0 2
-    ∷ chart cornered (at (+ 1) (+ 1) (- 1)) (at (+ 0) (+ 0) (+ 1)) 2 0 1
+    chart octant centre centre 1 0 0 (+ 0)
+    ∷ chart octant centre (at (+ 3) (+ 2) (+ 1)) 1 0 0 (+ 0)
+    ∷ chart octant centre (at (+ 1) (+ 1) (+ 0)) 3 0 0 (+ 0)
+    ∷ chart octant centre (at (+ 1) (+ 0) (+ 0)) 3 0 0 (+ 0)
+    ∷ chart octant centre (at (+ 1) (+ 1) (- 1)) 2 0 1 (- 1)
+    ∷ chart octant centre (at (- 1) (- 1) (+ 1)) 2 0 1 (- 1)
+    ∷ chart octant centre (at (- 1) (+ 1) (+ 0)) 2 0 1 (- 1)
+    ∷ chart octant centre (at (- 1) (- 1) (- 1)) 18 0 0 (+ 0)
+    ∷ chart octant (at (+ 1) (- 1) (+ 0)) centre 16 0 0 (+ 0)
+    ∷ chart doubled centre centre 13 0 0 (+ 0)
+    ∷ chart octant (at (+ 3) (+ 2) (+ 1)) (at (- 1) (- 1) (+ 1)) 2 0 1 (- 1)
+    ∷ chart octant (at (+ 1) (+ 1) (- 1)) (at (+ 3) (+ 2) (+ 1)) 2 0 1 (+ 1)
+    ∷ chart touched (at (- 2) (+ 0) (+ 1)) (at (+ 2) (+ 0) (+ 1)) 1 0 2 (+ 0)
+    ∷ chart cornered (at (+ 1) (+ 1) (- 1)) (at (+ 0) (+ 0) (+ 1)) 2 0 1 (- 1)
+    ∷ chart wound (at (+ 1) (+ 1) (+ 3)) (at (+ 1) (+ 1) (+ 0)) 1 0 2 (+ 2)
     ∷ []
 
-abbrev isAnswer : Answer → ℕ → ℕ → ℕ → Bool
-isAnswer answer number place count =
-    eqb (numberOf answer) number && (eqb (placeOf answer) place && eqb (countOf answer) count)
+abbrev isAnswer : Answer → ℕ → ℕ → ℕ → ℤ → Bool
+isAnswer answer number place count sum =
+    eqb (numberOf answer) number && (eqb (placeOf answer) place
+    && (eqb (countOf answer) count && isZero (signOf (sumOf answer -ℤ sum))))
 
 abbrev pub isRight : Chart → Bool
-isRight (chart vs X P number place count) = isAnswer (answerOf coarse vs X P) number place count
+isRight (chart vs X P number place count sum) = isAnswer (answerOf coarse vs X P) number place count sum
 
 abbrev pub areRight : List Chart → Bool
 areRight [] = true

@@ -1,20 +1,21 @@
 -- The promised theorems, as statements. Their proofs are in proofs/Claims.
--- Stated, in order: ChartsHold (K1 to K14), Demand2, Demand3. Assumes nothing.
+-- Stated, in order: ChartsHold (K1 to K14), Demand2, Demand3; and of document 02, P6: SumParity, ReversalNegates.
+-- Assumes nothing.
 use mathlib.Core.Path.{_≡_}
 use mathlib.Core.Bool.{true, false, cond}
 use mathlib.Core.List.{List}
 use Prim.Native.Nat.{ℕ, _%_, _<_}
 use lib.Dec.{eqb}
-use lib.IntN.{ℤ}
+use lib.IntN.{ℤ, pos, negℤ, natAbs}
 use Rattle.sphere.specs.declared.point.Point.{Point}
 use Rattle.sphere.specs.Direction.{isAntipodal}
 use Rattle.sphere.specs.OnEdge.{OnEdge}
 use Rattle.polygon.specs.declared.answer.Answer.{Answer}
 use Rattle.polygon.specs.declared.answer.Check.the-variants.{Passed}
-use Rattle.polygon.specs.Vertices.{vertexCount, startOf, endOf}
-use Rattle.polygon.specs.Answer.{numberOf, placeOf, countOf}
+use Rattle.polygon.specs.Vertices.{vertexCount, startOf, endOf, reversedOf}
+use Rattle.polygon.specs.Answer.{numberOf, placeOf, countOf, sumOf}
 use Rattle.polygon.specs.Checks.{acceptCheck, queryCheck, judgeCheck}
-use Rattle.polygon.specs.Verdict.{crossingsOf, answerOf}
+use Rattle.polygon.specs.Verdict.{crossingsOf, windingOf, answerOf}
 use Rattle.polygon.specs.Charts.{charts, areRight}
 
 abbrev pub ChartsHold : Type 0
@@ -37,10 +38,12 @@ pub record Judged (vs : List ℤ) (X P : Point) (a : Answer) : Type 0 where
   pub boundary→held : numberOf a ≡ 3 → Holds vs P (placeOf a)
   pub boundary→lowest : numberOf a ≡ 3 → (i : ℕ) → i < placeOf a → Holds vs P i → ⊥
   pub boundary→count : numberOf a ≡ 3 → countOf a ≡ 0
+  pub boundary→sum : numberOf a ≡ 3 → sumOf a ≡ pos 0
   pub even→inside : Clear vs P → crossingsOf vs X P % 2 ≡ 0 → numberOf a ≡ 1
   pub odd→outside : Clear vs P → crossingsOf vs X P % 2 ≡ 1 → numberOf a ≡ 2
   pub clear→place : Clear vs P → placeOf a ≡ 0
   pub clear→count : Clear vs P → countOf a ≡ crossingsOf vs X P
+  pub clear→sum : Clear vs P → sumOf a ≡ windingOf vs X P
 
 abbrev pub Demand2 : Type 0
 Demand2 = (limit : ℕ) (vs : List ℤ) (X P : Point) → judgeCheck limit vs X P ≡ Passed →
@@ -67,3 +70,22 @@ abbrev pub Demand3 : Type 0
 Demand3 = (limit : ℕ) (vs : List ℤ) (X Y P : Point) →
     acceptCheck limit vs X ≡ Passed → acceptCheck limit vs Y ≡ Passed → queryCheck limit P ≡ Passed →
     isAntipodal X P ≡ false → isAntipodal Y P ≡ false → SameVerdict limit vs X Y P
+
+-- ---- document 02, P6: the sum
+
+-- The sum is odd exactly when the count is, on every input.
+abbrev pub SumParity : Type 0
+SumParity = (limit : ℕ) (vs : List ℤ) (X P : Point) →
+    natAbs (sumOf (answerOf limit vs X P)) % 2 ≡ countOf (answerOf limit vs X P) % 2
+
+-- The answer b to the reversed list, beside the answer a to the list.
+pub record Reversed (a b : Answer) : Type 0 where
+  pub number : numberOf b ≡ numberOf a
+  pub count : countOf b ≡ countOf a
+  pub sum : sumOf b ≡ negℤ (sumOf a)
+
+-- The list reversed, for the same reference point and query: the verdict and the count stay, and the sum is negated.
+abbrev pub ReversalNegates : Type 0
+ReversalNegates = (limit : ℕ) (vs : List ℤ) (X P : Point) →
+    judgeCheck limit vs X P ≡ Passed → judgeCheck limit (reversedOf vs) X P ≡ Passed →
+    Reversed (answerOf limit vs X P) (answerOf limit (reversedOf vs) X P)

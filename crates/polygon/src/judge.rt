@@ -1,12 +1,11 @@
 // The verdict on a query, and the judging call.
-// Here, in order: by_parity, verdict_by, crossing, verdict, judge_query, judge. Document 01, 'When the arc crosses a
-// side' and 'What comes back'. Nothing is copied for a query, and each vertex is read once. Assumes nothing.
+// Here, in order: by_parity, verdict_by, counted, verdict, judge_query, judge. Document 01, 'When the arc crosses a
+// side' and 'What comes back'; document 02, P6, for the sum. Nothing is copied for a query, and each vertex is read
+// once. Assumes nothing.
 ghost use mathlib.Core.Path.{_≡_};
 ghost use mathlib.Core.Bool.{cond};
-ghost use Rattle.integers.specs.Sign.{signOf};
+ghost use Rattle.integers.specs.Sign.{signOf, isZero};
 ghost use Rattle.sphere.specs.Point.{coarse, Within};
-ghost use Rattle.sphere.specs.Orientation.{orientationOf};
-ghost use Rattle.sphere.specs.Crossing.{crossesBy};
 ghost use Rattle.polygon.specs.declared.answer.Found.the-variants.{Nothing};
 ghost use Rattle.polygon.specs.declared.answer.Check.the-variants.{Passed};
 ghost use Rattle.polygon.specs.Checks.{acceptCheck};
@@ -20,43 +19,43 @@ use crate::checks::far_check;
 use crate::checks::query_check;
 use crate::vertices::end_of;
 use crate::vertices::vertex_at;
-use sphere::crossing::crosses_from;
+use sphere::crossing::crossing_from;
 use sphere::edge::on_edge_by;
 use sphere::orientation::orientation;
 use sphere::point::Point;
 
 // An even number of crossings means inside.
-pub fn by_parity(crossed: u32) -> Answer
-    ensures { λ r. ⌜ r ≡ verdictBy Nothing crossed ⌝ }
+pub fn by_parity(crossed: u32, sum: i32) -> Answer
+    ensures { λ r. ⌜ r ≡ verdictBy Nothing crossed sum ⌝ }
 {
     if crossed % 2 == 0 {
-        return Answer::Inside(crossed);
+        return Answer::Inside(crossed, sum);
     }
-    Answer::Outside(crossed)
+    Answer::Outside(crossed, sum)
 }
 
 // Boundary, or by parity.
-pub fn verdict_by(found: Found, crossed: u32) -> Answer
-    ensures { λ r. ⌜ r ≡ verdictBy found crossed ⌝ }
+pub fn verdict_by(found: Found, crossed: u32, sum: i32) -> Answer
+    ensures { λ r. ⌜ r ≡ verdictBy found crossed sum ⌝ }
 {
     match found {
-        Found::Nothing => by_parity(crossed),
+        Found::Nothing => by_parity(crossed, sum),
         Found::At(edge) => Answer::Boundary(edge),
     }
 }
 
-// What the edge from a to b adds to the count, by the orientations s1, s2 and s4.
-pub fn crossing(known: Point, a: Point, b: Point, s1: i64, s2: i64, s4: i64) -> u32
-    requires { ⌜ Within coarse known × Within coarse a × Within coarse b ⌝ }
-    ensures { λ r. ⌜ r ≡ cond (crossesBy (signOf s1) (signOf s2) (signOf (orientationOf a b known)) (signOf s4)) 1 0 ⌝ }
+// What an edge adds to the count, by the way in which it is crossed.
+pub fn counted(way: i32) -> u32
+    ensures { λ r. ⌜ r ≡ cond (isZero (signOf way)) 0 1 ⌝ }
 {
-    if crosses_from(known, a, b, s1, s2, s4) {
-        return 1;
+    if way == 0 {
+        return 0;
     }
-    0
+    1
 }
 
-// One pass over the edges: the first that holds the query ends it, and the crossings are counted on the way.
+// One pass over the edges: the first that holds the query ends it, and the crossings are counted and summed on
+// the way.
 pub fn verdict(vertices: &[i32], known: Point, query: Point) -> Answer
     requires { ⌜ Accepted coarse (now vertices) known × Within coarse query ⌝ }
     ensures { λ r. ⌜ r ≡ verdictOf (now (vertices .entry)) known query ⌝ }
@@ -66,6 +65,7 @@ pub fn verdict(vertices: &[i32], known: Point, query: Point) -> Answer
     let mut a = vertex_at(vertices, i);
     let mut s1 = orientation(known, query, a);
     let mut crossed: u32 = 0;
+    let mut sum: i32 = 0;
     let found = loop {
         if i >= n {
             break Found::Nothing;
@@ -76,12 +76,14 @@ pub fn verdict(vertices: &[i32], known: Point, query: Point) -> Answer
             break Found::At(i);
         }
         let s2 = orientation(known, query, b);
-        crossed += crossing(known, a, b, s1, s2, s4);
+        let way = crossing_from(known, a, b, s1, s2, s4);
+        crossed += counted(way);
+        sum += way;
         a = b;
         s1 = s2;
         i += 1;
     };
-    verdict_by(found, crossed)
+    verdict_by(found, crossed, sum)
 }
 
 // One query to an accepted polygon: a caller with many queries has the polygon checked once.

@@ -3,13 +3,14 @@
 // spg_feed_number writes, and nothing is kept between calls. Assumes nothing.
 ghost use mathlib.Core.Path.{_≡_};
 ghost use lib.ListN.{length};
-ghost use Rattle.polygon.specs.Answer.{numberOf, placeOf, countOf};
+ghost use Rattle.polygon.specs.Answer.{numberOf, placeOf, countOf, sumOf};
 ghost use Rattle.sheet.specs.Judge.{sheetAnswerOf, sheetFeedOf, sheetFedTo};
 ghost use Rattle.spargolutta.specs.Query.{queryOf};
 use polygon::answer::Answer;
 use polygon::answer::count;
 use polygon::answer::number;
 use polygon::answer::place;
+use polygon::answer::sum;
 use polygon::vertices::wide;
 use sheet::feed::feed;
 use sheet::feed::feed_answer;
@@ -49,6 +50,14 @@ pub extern "C" fn spg_judge_count(sheet: &[u8], x: i32, y: i32, z: i32) -> u32
     ensures { λ r. ⌜ r ≡ countOf (sheetAnswerOf (now (sheet .entry)) (queryOf x y z)) ⌝ }
 {
     count(answer(sheet, x, y, z))
+}
+
+// Document 02, P6: the winding, which the verdict does not use.
+#[no_mangle]
+pub extern "C" fn spg_judge_sum(sheet: &[u8], x: i32, y: i32, z: i32) -> i32
+    ensures { λ r. ⌜ r ≡ sumOf (sheetAnswerOf (now (sheet .entry)) (queryOf x y z)) ⌝ }
+{
+    sum(answer(sheet, x, y, z))
 }
 
 // A feed: the results are written if and only if the number is 0.

@@ -20,7 +20,8 @@ use Rattle.polygon.specs.Answer.{numberOf, placeOf, countOf, answerAfter}
 use Rattle.polygon.specs.Search.{countFrom}
 use Rattle.polygon.specs.Vertices.{vertexCount}
 use Rattle.polygon.specs.Checks.{_then_, failsIf, acceptCheck, queryCheck, farCheck, judgeCheck}
-use Rattle.polygon.specs.Verdict.{isHeldBy, isCrossed, boundaryOf, crossingsOf, verdictBy, verdictOf, answerOf}
+use Rattle.polygon.specs.Verdict.{isHeldBy, isCrossed, boundaryOf, crossingsOf, windingOf, verdictBy, verdictOf}
+use Rattle.polygon.specs.Verdict.{answerOf}
 use Rattle.polygon.proofs.Laws.First.{first-found}
 use Rattle.polygon.proofs.Laws.Checks.{accept-passed}
 
@@ -44,17 +45,18 @@ after-small true far s = record { number = omega arith; place = omega arith; cou
 after-small false true s = record { number = omega arith; place = omega arith; count = omega arith }
 after-small false false s = s
 
-parity-small : (even : Bool) (n : ℕ) → n ≤ 4096 → Small (cond even (Inside n) (Outside n))
-parity-small true n h = record { number = omega arith; place = omega arith; count = omega arith }
-parity-small false n h = record { number = omega arith; place = omega arith; count = omega arith }
+parity-small : (even : Bool) (n : ℕ) (s : ℤ) → n ≤ 4096 → Small (cond even (Inside n s) (Outside n s))
+parity-small true n s h = record { number = omega arith; place = omega arith; count = omega arith }
+parity-small false n s h = record { number = omega arith; place = omega arith; count = omega arith }
 
 module _ (limit : ℕ) (vs : List ℤ) (X : Point) (e : acceptCheck limit vs X ≡ Passed) (P : Point) where
-  verdict-small : (found : Found) → boundaryOf vs P ≡ found → Small (verdictBy found (crossingsOf vs X P))
+  verdict-small : (found : Found) → boundaryOf vs P ≡ found →
+      Small (verdictBy found (crossingsOf vs X P) (windingOf vs X P))
   unfolding boundaryOf crossingsOf
   verdict-small Nothing h =
       let n = crossingsOf vs X P in
       let few = count-bound (isCrossed vs X P) 0 (vertexCount vs) in
-      parity-small (eqb (n % 2) 0) n (omega (arith, few, accept-passed e .listed .most))
+      parity-small (eqb (n % 2) 0) n (windingOf vs X P) (omega (arith, few, accept-passed e .listed .most))
   verdict-small (At edge) h =
       let low = first-found (isHeldBy vs P) 0 (vertexCount vs) edge h .below in
       record { number = omega arith; place = omega (arith, low, accept-passed e .listed .most); count = omega arith }

@@ -1,6 +1,6 @@
 -- The parity of a count over the numbers from i on, and round a ring. Defined: oddFrom (an odd number of them pass).
--- Proved, in order: count-odd (so says the count), odd-none, odd-sum, ends-even (round a ring each vertex
--- is an end of two edges). Assumes nothing.
+-- Proved, in order: count-odd (so says the count), odd-none, odd-sum, next-inner, next-last, ends-even (round a ring
+-- each vertex is an end of two edges). Assumes nothing.
 use mathlib.Core.Path.{_≡_, refl, _∙_, ap, ap₂}
 use mathlib.Core.Bool.{Bool, true, false, cond}
 use Prim.Native.Nat.{ℕ, zero, suc, _+_, _%_}
@@ -37,11 +37,11 @@ odd-sum f g i zero = refl
 odd-sum f g i (suc k) = ap (λ x. f i ⊕ g i ⊕ x) (odd-sum f g (suc i) k) ∙ simp parity
 
 -- ---- round a ring of n
-next-inner : (n i k : ℕ) → i + suc (suc k) ≡ n → nextOf n i ≡ suc i
+pub next-inner : (n i k : ℕ) → i + suc (suc k) ≡ n → nextOf n i ≡ suc i
 unfolding nextOf
 next-inner n i k h = rw (lt-ltb (i + 1) n (omega arith)) (add-one i)
 
-next-last : (n i : ℕ) → i + 1 ≡ n → nextOf n i ≡ 0
+pub next-last : (n i : ℕ) → i + 1 ≡ n → nextOf n i ≡ 0
 unfolding nextOf
 next-last n i h = rw (le-ltb (i + 1) n (omega arith))
 

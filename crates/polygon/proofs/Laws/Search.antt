@@ -1,8 +1,9 @@
--- Searching and counting, as a loop goes. The test is a parameter: every pass over vertices or edges uses these laws.
--- Of a search, in order: Searched (nothing was found before i), searched-start, searched-step, searched-hit,
--- searched-end, first-none. Of a count: Counted (k were counted before i), counted-start, counted-step, counted-end.
--- Of a walk over the edges: next-below, Carried (the vertex that it carries), carried-start, carried-step,
--- start-within, end-within. Assumes nothing.
+-- Searching, counting and summing, as a loop goes. The test is a parameter: every pass over vertices or edges uses
+-- these laws. Of a search, in order: Searched (nothing was found before i), searched-start, searched-step,
+-- searched-hit, searched-end, first-none. Of a count: Counted (k were counted before i), counted-start, counted-step,
+-- counted-end. Of a sum: Summed (k is the sum of the terms before i), summed-start, summed-step, summed-end. Of a walk
+-- over the edges: next-below, Carried (the vertex that it carries), carried-start, carried-step, start-within,
+-- end-within. Assumes nothing.
 use mathlib.Core.Path.{_≡_, refl, sym, _∙_}
 use mathlib.Core.Bool.{Bool, true, false, cond}
 use mathlib.Core.List.{List}
@@ -11,12 +12,12 @@ use native.Mathlib.Numerals.{add-one}
 use native.Mathlib.Omega.{arith}
 use borrow.Author.Tests.{ltb-true, ltb-false, lt-ltb}
 use lib.Dec.{ltb}
-use lib.IntN.{ℤ}
+use lib.IntN.{ℤ, pos, _+ℤ_, +ℤ-idl, +ℤ-idr, +ℤ-assoc}
 use Rattle.sphere.specs.declared.point.Point.{Point}
 use Rattle.sphere.specs.Point.{Within}
 use Rattle.polygon.specs.declared.answer.Found.{Found}
 use Rattle.polygon.specs.declared.answer.Found.the-variants.{Nothing, At}
-use Rattle.polygon.specs.Search.{firstFrom, countFrom}
+use Rattle.polygon.specs.Search.{firstFrom, countFrom, sumFrom}
 use Rattle.polygon.specs.Vertices.{vertexCount, vertexAt, nextOf, endOf}
 use Rattle.polygon.specs.Accepted.{Gridded}
 
@@ -103,6 +104,26 @@ counted-step {test} {n} {i} {k} h c =
 pub counted-end : {test : ℕ → Bool} {n i k : ℕ} → n ≤ i → Counted test n i k → countFrom test 0 n ≡ k
 unfolding countFrom
 counted-end {test} {n} {i} {k} h c = sym (c .rest) ∙ rw (none-left i n h) (omega arith)
+
+-- ---- a sum
+
+-- The sum k of the terms before i, and that from i on, are the whole sum.
+pub record Summed (term : ℕ → ℤ) (n i : ℕ) (k : ℤ) : Type 0 where
+  pub rest : k +ℤ sumFrom term i (n - i) ≡ sumFrom term 0 n
+
+pub summed-start : (term : ℕ → ℤ) (n : ℕ) → Summed term n 0 (pos 0)
+summed-start term n = record { rest = rw (all-left n) (+ℤ-idl (sumFrom term 0 n)) }
+
+pub summed-step : {term : ℕ → ℤ} {n i : ℕ} {k : ℤ} → i < n →
+    Summed term n i k → Summed term n (i + 1) (k +ℤ term i)
+unfolding sumFrom
+summed-step {term} {n} {i} {k} h c =
+    let rest = sumFrom term (i + 1) (n - (i + 1)) in
+    record { rest = +ℤ-assoc k (term i) rest ∙ sym (rw (one-more i n h, add-one i)) ∙ c .rest }
+
+pub summed-end : {term : ℕ → ℤ} {n i : ℕ} {k : ℤ} → n ≤ i → Summed term n i k → sumFrom term 0 n ≡ k
+unfolding sumFrom
+summed-end {term} {n} {i} {k} h c = sym (c .rest) ∙ rw (none-left i n h) (+ℤ-idr k)
 
 -- ---- a walk over the edges
 
