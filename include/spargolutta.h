@@ -1,9 +1,9 @@
 /*
  * spargolutta.h: does a point lie inside, outside or on the boundary of a polygon on the sphere?
  *
- * The polygon comes as a zone sheet (bytes) and the query as three whole numbers. Three calls take the same arguments
- * and each fetches one part of the same answer: its number, its place, its count. Three more judge a feed, any number
- * of queries to one sheet. All work is in whole numbers, so no answer depends on rounding.
+ * The polygon comes as a zone sheet (bytes) and the query as three whole numbers. Four calls take the same arguments
+ * and each fetches one part of the same answer: its number, its place, its count, its sum. Three more judge a feed, any
+ * number of queries to one sheet. All work is in whole numbers, so no answer depends on rounding.
  *
  *     cc client.c $(pkg-config --cflags --libs spargolutta)
  *
@@ -13,6 +13,9 @@
  * A point is a direction from the centre: x, y, z, each from -1,048,576 to 1,048,576 (the grid), not all zero. Side i
  * (edge i) is the shorter arc from vertex i to the next one, the last side goes back to vertex 0. The known point
  * (reference point) is inside by the sheet's own claim. All numbering starts at 0.
+ *
+ * A side is border if the number of sides that join its two directions, whichever way they are walked, is odd. A
+ * corridor to a hole or to another island, walked out and back, is none: a point on it is inside or outside.
  *
  * A zone sheet has 69 to 49,304 bytes: five fields in this order, each a one-byte tag, a two-byte length and a body.
  * All numbers are big-endian, coordinates are signed 32-bit.
@@ -48,7 +51,7 @@ enum spg_number {
     SPG_DONE = 0,               /* a feed was judged and its results are written                                      */
     SPG_INSIDE = 1,             /* inside                                              count: sides crossed           */
     SPG_OUTSIDE = 2,            /* outside                                             count: sides crossed           */
-    SPG_BOUNDARY = 3,           /* on a side                                           place: lowest such side        */
+    SPG_BOUNDARY = 3,           /* on a border side                                    place: lowest such side        */
     SPG_BAD_LIST = 10,          /* not whole threes, or under 3 or over 4,096 vertices                                */
     SPG_VERTEX_OFF_GRID = 11,   /* a vertex has a number beyond the grid               place: lowest such vertex      */
     SPG_VERTEX_ZERO = 12,       /* a vertex is all zero                                place: lowest such vertex      */

@@ -141,6 +141,18 @@ static answer check(const int32_t *list, size_t n, point known)
     return refuse(0, 0);
 }
 
+/* P3: an odd number of edges joins the directions of a and b, whichever way they are walked. */
+static bool border(const int32_t *list, size_t n, point a, point b)
+{
+    bool odd = false;
+    for (size_t i = 0; i < n; i++) {
+        point c = vertex(list, i), d = vertex(list, i + 1 < n ? i + 1 : 0);
+        if ((same(a, c, a) && same(b, d, a)) || (same(a, d, a) && same(b, c, a)))
+            odd = !odd;
+    }
+    return odd;
+}
+
 static answer verdict(const int32_t *list, size_t n, point known, point query)
 {
     uint32_t crossed = 0;
@@ -150,7 +162,7 @@ static answer verdict(const int32_t *list, size_t n, point known, point query)
         return refuse(18, 0);
     for (size_t i = 0; i < n; i++) {
         point a = vertex(list, i), b = vertex(list, i + 1 < n ? i + 1 : 0);
-        if (on_edge(a, b, query))
+        if (on_edge(a, b, query) && border(list, n, a, b))
             return (answer){3, i, 0};
         if (crosses(known, query, a, b))
             crossed++;

@@ -101,6 +101,15 @@ fn check(list: &[i32], known: Vector) -> Option<Answer> {
     None
 }
 
+/// P3: an odd number of edges joins the two directions, whichever way they are walked.
+fn border(list: &[i32], (a, b): Edge) -> bool {
+    let joins = |&i: &usize| {
+        let (c, d) = ends(list, i);
+        (same((a, c)) && same((b, d))) || (same((a, d)) && same((b, c)))
+    };
+    (0..list.len() / 3).filter(joins).count() % 2 == 1
+}
+
 fn verdict(list: &[i32], known: Vector, query: Vector) -> Answer {
     if beyond(query) || zero(query) {
         return Answer { number: 17, place: 0, count: 0 };
@@ -111,7 +120,7 @@ fn verdict(list: &[i32], known: Vector, query: Vector) -> Answer {
     let mut crossed = 0;
     for i in 0..list.len() / 3 {
         let edge = ends(list, i);
-        if on_edge(edge, query) {
+        if on_edge(edge, query) && border(list, edge) {
             return Answer { number: 3, place: i, count: 0 };
         }
         if crosses(edge, known, query) {

@@ -127,6 +127,29 @@ fn sums() {
     ]);
 }
 
+/// Document 02, P3, worked out by hand. The octant with a corridor from (1,0,0) out to (2,-1,-2) and back: (3,-1,-2) lies on
+/// both its sides, and the arc from (1,1,1) crosses side 2 alone, by the second pattern (-1, 5, 1, -2). Walked three
+/// times it is border. A copy of the corridor may have longer vectors. (1,0,0) lies on the corridor, sides 0 and 1, and on the border sides
+/// 2 and 4. Then a corridor inside the octant, from (0,0,1) to (1,1,0) on side 0 and back: (1,1,1) is on it, and the arc to
+/// (1,2,1) crosses both its sides (4, -2, -1, 1) and (-2, 4, 1, -1).
+#[test]
+fn corridors() {
+    let out = [[1, 0, 0], [2, -1, -2], [1, 0, 0], [0, 1, 0], [0, 0, 1]];
+    let longer = [[1, 0, 0], [2, -1, -2], [2, 0, 0], [0, 1, 0], [0, 0, 1]];
+    let thrice = [[1, 0, 0], [2, -1, -2], [1, 0, 0], [2, -1, -2], [0, 1, 0], [0, 0, 1]];
+    let within = [[1, 0, 0], [0, 1, 0], [0, 0, 1], [1, 1, 0], [0, 0, 1]];
+    all_give(&[
+        chart("on a corridor", &out, [1, 1, 1], [3, -1, -2], (2, 0, 1)).sum(-1),
+        chart("on a corridor's longer copy", &longer, [1, 1, 1], [3, -1, -2], (2, 0, 1)).sum(-1),
+        chart("on a corridor walked three times", &thrice, [1, 1, 1], [3, -1, -2], (3, 0, 0)),
+        chart("where a corridor begins", &out, [1, 1, 1], [1, 0, 0], (3, 2, 0)),
+        chart("on a corridor inside", &within, [3, 2, 1], [1, 1, 1], (1, 0, 0)),
+        chart("past a corridor inside", &within, [3, 2, 1], [1, 2, 1], (1, 0, 2)),
+        chart("where a corridor meets a side", &within, [3, 2, 1], [1, 1, 0], (3, 0, 0)),
+        chart("a known point on a corridor's circle", &out, [2, 1, 2], [1, 1, 1], (16, 0, 0)),
+    ]);
+}
+
 #[test]
 fn octant_sheet() {
     let bytes = octant().bytes();

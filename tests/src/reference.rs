@@ -115,6 +115,14 @@ fn outline_refusal(vertices: &[Vector], known: Vector) -> Option<Answer> {
     None
 }
 
+/// Document 02, P3: a side is border if an odd number of sides joins its two directions, whichever way they are walked.
+fn border(sides: &[(Vector, Vector)], (a, b): (Vector, Vector)) -> bool {
+    let joins = |&&(c, d): &&(Vector, Vector)| {
+        (same_direction(a, c) && same_direction(b, d)) || (same_direction(a, d) && same_direction(b, c))
+    };
+    sides.iter().filter(joins).count() % 2 == 1
+}
+
 /// Lines 17, 18 and 1 to 3, for an outline and a known point that are not refused.
 fn verdict(vertices: &[Vector], known: Vector, query: Vector) -> Answer {
     if beyond(query) || all_zero(query) {
@@ -124,7 +132,7 @@ fn verdict(vertices: &[Vector], known: Vector, query: Vector) -> Answer {
         return answer(18, 0, 0);
     }
     let sides = sides(vertices);
-    if let Some(i) = sides.iter().position(|&side| on_side(side, query)) {
+    if let Some(i) = sides.iter().position(|&side| on_side(side, query) && border(&sides, side)) {
         return answer(3, i, 0);
     }
     let crossed = sides.iter().filter(|&&side| crossing(known, query, side) != 0).count() as u32;

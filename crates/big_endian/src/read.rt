@@ -1,6 +1,6 @@
 // Numbers read from bytes.
-// Here, in order: wide, byte_at, short_at, word_at, to_signed, int_at, coordinate_at, point_at; decode (a row of numbers).
-// Assumes nothing.
+// Here, in order: wide, byte_at, short_at, word_at, to_signed, int_at, coordinate_at, point_at; decode (a row of
+// numbers). Assumes nothing.
 ghost use mathlib.Core.Path.{_≡_};
 ghost use mathlib.Core.List.{_++_};
 ghost use Prim.Native.Nat.{_+_, _*_, _≤_, _<_};

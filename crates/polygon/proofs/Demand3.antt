@@ -3,7 +3,7 @@
 -- judge-passed, answer-judged, number-judged, accepted-clears (an accepted point is on no edge), called (what it
 -- means that X calls Y), demand-3. Assumes nothing.
 use mathlib.Core.Path.{_≡_, refl, sym, _∙_, ap}
-use mathlib.Core.Bool.{Bool, true, false, cond}
+use mathlib.Core.Bool.{Bool, true, false, cond, _&&_}
 use mathlib.Core.List.{List}
 use Prim.Native.Nat.{ℕ, _%_, _<_}
 use native.Mathlib.Omega.{arith}
@@ -19,9 +19,10 @@ use Rattle.polygon.specs.declared.answer.Found.the-variants.{Nothing, At
 use Rattle.polygon.specs.declared.answer.Answer.the-variants.{Inside, Outside}
 use Rattle.polygon.specs.declared.answer.Check.the-variants.{Passed}
 use Rattle.polygon.specs.Vertices.{vertexCount, startOf, endOf}
+use Rattle.polygon.specs.Border.{isBorder}
 use Rattle.polygon.specs.Answer.{numberOf, placeOf}
 use Rattle.polygon.specs.Checks.{acceptCheck, queryCheck, farCheck, judgeCheck}
-use Rattle.polygon.specs.Verdict.{isHeldBy, isCrossed, boundaryOf, crossingsOf, windingOf, verdictBy}
+use Rattle.polygon.specs.Verdict.{isCrossed, isCoast, boundaryOf, crossingsOf, windingOf, verdictBy}
 use Rattle.polygon.specs.Verdict.{verdictOf, answerOf}
 use Rattle.polygon.specs.Claims.{exchanged, SameVerdict, Demand3}
 use Rattle.polygon.proofs.Laws.Search.{first-none}
@@ -75,11 +76,12 @@ module _ (limit : ℕ) (vs : List ℤ) (X P : Point) where
 module _ (limit : ℕ) (vs : List ℤ) where
   accepted-clears : (Y : Point) → Reference limit vs Y → Clears vs Y
   accepted-clears Y a i from below =
-      let l : i < vertexCount vs = omega arith in off→not-on (startOf vs i) (endOf vs i) Y (a .off-circle i l)
+      let l : i < vertexCount vs = omega arith in
+      ap (λ held. held && isBorder vs i) (off→not-on (startOf vs i) (endOf vs i) Y (a .off-circle i l))
 
   clears-none : (Y : Point) → Clears vs Y → boundaryOf vs Y ≡ Nothing
   unfolding boundaryOf
-  clears-none Y clear = none-first (isHeldBy vs Y) 0 (vertexCount vs) clear
+  clears-none Y clear = none-first (isCoast vs Y) 0 (vertexCount vs) clear
 
   record Called (X Y : Point) (n : ℕ) : Type 0 where
     near : isAntipodal X Y ≡ false
@@ -131,7 +133,7 @@ module _ (limit : ℕ) (vs : List ℤ) (X Y P : Point) (x : acceptCheck limit vs
   sum nearXY h =
       arcs limit vs X Y P (reference-accepted limit vs X x) (reference-accepted limit vs Y y) grid nearXY nearXP nearYP
       (accepted-clears limit vs Y (reference-accepted limit vs Y y))
-      (λ i. first-none (isHeldBy vs P) 0 (vertexCount vs) i h)
+      (λ i. first-none (isCoast vs P) 0 (vertexCount vs) i h)
 
   from-X : numberOf (answerOf limit vs X P) ≡ numberBy (boundaryOf vs P) (arc vs X P)
   from-X = number-judged limit vs X P (judge-passed limit vs X P x p nearXP)

@@ -5,3 +5,4 @@ pub mod Count
 pub mod Sum
 pub mod Reversed
 pub mod Checks
+pub mod Classes

@@ -1,6 +1,5 @@
--- The promised theorems, as statements. Their proofs are in proofs/Claims.
--- Stated, in order: ChartsHold (K1 to K14), Demand2, Demand3; and of document 02, P6: SumParity, ReversalNegates.
--- Assumes nothing.
+-- The promised theorems, as statements. Their proofs are in proofs/Claims. Stated, in order: ChartsHold (K1 to K14,
+-- and the corridors of P3), Demand2, Demand3; and of document 02, P6: SumParity, ReversalNegates. Assumes nothing.
 use mathlib.Core.Path.{_≡_}
 use mathlib.Core.Bool.{true, false, cond}
 use mathlib.Core.List.{List}
@@ -13,19 +12,22 @@ use Rattle.sphere.specs.OnEdge.{OnEdge}
 use Rattle.polygon.specs.declared.answer.Answer.{Answer}
 use Rattle.polygon.specs.declared.answer.Check.the-variants.{Passed}
 use Rattle.polygon.specs.Vertices.{vertexCount, startOf, endOf, reversedOf}
+use Rattle.polygon.specs.Border.{isBorder}
 use Rattle.polygon.specs.Answer.{numberOf, placeOf, countOf, sumOf}
 use Rattle.polygon.specs.Checks.{acceptCheck, queryCheck, judgeCheck}
 use Rattle.polygon.specs.Verdict.{crossingsOf, windingOf, answerOf}
-use Rattle.polygon.specs.Charts.{charts, areRight}
+use Rattle.polygon.specs.Charts.{charts, corridors, areRight}
 
 abbrev pub ChartsHold : Type 0
-ChartsHold = areRight charts ≡ true
+ChartsHold = (areRight charts ≡ true) × (areRight corridors ≡ true)
 
 -- ---- demand 2
 
--- The query P lies on edge i, by document 01's fractions; and on no edge.
-abbrev pub Holds : List ℤ → Point → ℕ → Type 0
-Holds vs P i = (i < vertexCount vs) × OnEdge (startOf vs i) (endOf vs i) P
+-- The query P lies on edge i, by document 01's fractions, and the edge is border; and on no such edge.
+pub record Holds (vs : List ℤ) (P : Point) (i : ℕ) : Type 0 where
+  pub below : i < vertexCount vs
+  pub on-edge : OnEdge (startOf vs i) (endOf vs i) P
+  pub border : isBorder vs i ≡ true
 
 abbrev pub Clear : List ℤ → Point → Type 0
 Clear vs P = (i : ℕ) → Holds vs P i → ⊥

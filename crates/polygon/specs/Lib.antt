@@ -3,6 +3,7 @@ pub mod Vertices
 pub mod Answer
 pub mod Checks
 pub mod Accepted
+pub mod Border
 pub mod Verdict
 pub mod Charts
 pub mod Claims

@@ -14,13 +14,13 @@ ghost use Rattle.polygon.specs.Verdict.{verdictBy, verdictOf, answerOf};
 use crate::answer::Answer;
 use crate::answer::Check;
 use crate::answer::Found;
+use crate::border::is_coast;
 use crate::checks::accept_check;
 use crate::checks::far_check;
 use crate::checks::query_check;
 use crate::vertices::end_of;
 use crate::vertices::vertex_at;
 use sphere::crossing::crossing_from;
-use sphere::edge::on_edge_by;
 use sphere::orientation::orientation;
 use sphere::point::Point;
 
@@ -54,8 +54,8 @@ pub fn counted(way: i32) -> u32
     1
 }
 
-// One pass over the edges: the first that holds the query ends it, and the crossings are counted and summed on
-// the way.
+// One pass over the edges: the first border edge that holds the query ends it, and the crossings are counted and
+// summed on the way.
 pub fn verdict(vertices: &[i32], known: Point, query: Point) -> Answer
     requires { ⌜ Accepted coarse (now vertices) known × Within coarse query ⌝ }
     ensures { λ r. ⌜ r ≡ verdictOf (now (vertices .entry)) known query ⌝ }
@@ -72,7 +72,7 @@ pub fn verdict(vertices: &[i32], known: Point, query: Point) -> Answer
         }
         let b = end_of(vertices, i);
         let s4 = orientation(a, b, query);
-        if on_edge_by(a, b, query, s4) {
+        if is_coast(vertices, i, a, b, query, s4) {
             break Found::At(i);
         }
         let s2 = orientation(known, query, b);

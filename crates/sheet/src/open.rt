@@ -39,7 +39,8 @@ pub fn decode_vertices(b: &[u8], n: usize, out: &mut [i32])
 // All checks of a sheet. The polygon is decoded to the front of `scratch`, also one that is then refused.
 fn open_into(b: &[u8], scratch: &mut [i32]) -> Check
     requires { ⌜ 12288 ≤ length (now scratch) ⌝ }
-    ensures { λ r. ⌜ (r ≡ sheetCheck (now (b .entry))) × (now (scratch .exit) ≡ decodedOf (now (b .entry)) (now (scratch .entry))) ⌝ }
+    ensures { λ r. ⌜ (r ≡ sheetCheck (now (b .entry)))
+        × (now (scratch .exit) ≡ decodedOf (now (b .entry)) (now (scratch .entry))) ⌝ }
 {
     if let Check::Failed(number, place) = fields::fields_check(b) {
         return Check::Failed(number, place);
@@ -52,7 +53,8 @@ fn open_into(b: &[u8], scratch: &mut [i32]) -> Check
 
 // The same, into an array that holds the vertices of any sheet.
 pub fn open(b: &[u8], scratch: &mut [i32; 12288]) -> Check
-    ensures { λ r. ⌜ (r ≡ sheetCheck (now (b .entry))) × (now (scratch .exit) ≡ decodedOf (now (b .entry)) (now (scratch .entry))) ⌝ }
+    ensures { λ r. ⌜ (r ≡ sheetCheck (now (b .entry)))
+        × (now (scratch .exit) ≡ decodedOf (now (b .entry)) (now (scratch .entry))) ⌝ }
 {
     open_into(b, scratch)
 }

@@ -71,7 +71,8 @@ pub fn read(b: &[u8]) -> Sheet
 
 // The same, and the vertices go to the front of `out`. A refusal leaves it as it was.
 pub fn load(b: &[u8], out: &mut [i32; 12288]) -> Sheet
-    ensures { λ r. ⌜ (r ≡ readOf (now (b .entry))) × (now (out .exit) ≡ loadedOf (now (b .entry)) (now (out .entry))) ⌝ }
+    ensures { λ r. ⌜ (r ≡ readOf (now (b .entry)))
+        × (now (out .exit) ≡ loadedOf (now (b .entry)) (now (out .entry))) ⌝ }
 {
     match sheet_check(b) {
         Check::Passed => {

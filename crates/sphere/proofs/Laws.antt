@@ -4,3 +4,4 @@ pub mod Orientation
 pub mod Aligned
 pub mod Crossing
 pub mod OnEdge
+pub mod Joined

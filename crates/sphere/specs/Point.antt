@@ -1,6 +1,6 @@
 -- Document 01, 'Points, sides, outlines': a point is three whole numbers, each at most the grid's limit in size, not
--- all zero. Defined, in order: coarse, minors, Fits, Within, isFar, isBeyond, isNull, isOffGrid. The limit is a parameter
--- everywhere, because document 02 has a second grid. Assumes nothing.
+-- all zero. Defined, in order: coarse, minors, Fits, Within, isFar, isBeyond, isNull, isOffGrid. The limit is a
+-- parameter everywhere, because document 02 has a second grid. Assumes nothing.
 use mathlib.Core.Bool.{Bool, _&&_, _||_}
 use Prim.Native.Nat.{ℕ, _+_, _*_, _≤_}
 use lib.Dec.{ltb}

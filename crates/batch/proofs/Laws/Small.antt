@@ -20,7 +20,7 @@ use Rattle.polygon.specs.Answer.{numberOf, placeOf, countOf, answerAfter}
 use Rattle.polygon.specs.Search.{countFrom}
 use Rattle.polygon.specs.Vertices.{vertexCount}
 use Rattle.polygon.specs.Checks.{_then_, failsIf, acceptCheck, queryCheck, farCheck, judgeCheck}
-use Rattle.polygon.specs.Verdict.{isHeldBy, isCrossed, boundaryOf, crossingsOf, windingOf, verdictBy, verdictOf}
+use Rattle.polygon.specs.Verdict.{isCoast, isCrossed, boundaryOf, crossingsOf, windingOf, verdictBy, verdictOf}
 use Rattle.polygon.specs.Verdict.{answerOf}
 use Rattle.polygon.proofs.Laws.First.{first-found}
 use Rattle.polygon.proofs.Laws.Checks.{accept-passed}
@@ -58,7 +58,7 @@ module _ (limit : ℕ) (vs : List ℤ) (X : Point) (e : acceptCheck limit vs X �
       let few = count-bound (isCrossed vs X P) 0 (vertexCount vs) in
       parity-small (eqb (n % 2) 0) n (windingOf vs X P) (omega (arith, few, accept-passed e .listed .most))
   verdict-small (At edge) h =
-      let low = first-found (isHeldBy vs P) 0 (vertexCount vs) edge h .below in
+      let low = first-found (isCoast vs P) 0 (vertexCount vs) edge h .below in
       record { number = omega arith; place = omega (arith, low, accept-passed e .listed .most); count = omega arith }
 
   pub answer-small : Small (answerOf limit vs X P)

@@ -1,7 +1,7 @@
 -- `verdict` meets its contract: the search, the count and the sum from edge i on, with what came before, are the whole
 -- search, count and sum. Assumes nothing.
-use mathlib.Core.Path.{_≡_, _∙_}
-use mathlib.Core.Bool.{Bool, true, false, not, cond}
+use mathlib.Core.Path.{_≡_, sym, _∙_}
+use mathlib.Core.Bool.{false, not, cond}
 use mathlib.Core.List.{List}
 use mathlib.Core.Logic.{⊎-elim}
 use Prim.Native.Nat.{ℕ, _+_, _-_, _^_, _≤_, _<_}
@@ -17,19 +17,15 @@ use Rattle.sphere.specs.declared.point.Point.{Point}
 use Rattle.sphere.specs.Point.{coarse, Within}
 use Rattle.sphere.specs.Orientation.{orientationOf}
 use Rattle.sphere.specs.Crossing.{crossingBy, crossingOf}
-use Rattle.sphere.specs.OnEdge.{isOnEdge}
 use Rattle.polygon.specs.Vertices.{vertexCount, startOf, endOf}
-use Rattle.polygon.specs.Verdict.{isHeldBy, isCrossed, wayOf, boundaryOf, crossingsOf, windingOf, verdictOf}
+use Rattle.polygon.specs.Verdict.{isCrossed, isCoast, wayOf, boundaryOf, crossingsOf, windingOf, verdictOf}
 use Rattle.polygon.proofs.Laws.Search.{Searched, searched-start, searched-step, searched-hit, searched-end}
 use Rattle.polygon.proofs.Laws.Search.{Counted, counted-start, counted-step, counted-end}
 use Rattle.polygon.proofs.Laws.Search.{Summed, summed-start, summed-step, summed-end}
 use Rattle.polygon.proofs.Laws.Search.{Carried, carried-start, carried-step, start-within, end-within}
-use Rattle.polygon.proofs.Laws.Search.{tested-edge}
+use Rattle.polygon.proofs.Laws.Count.{one-at-most}
 use Rattle.polygon.proofs.judge.verdict.Statement.{statement}
 use Rattle.polygon.proofs.judge.verdict.Tie as tie
-
-abbrev holds : Point → Point → Point → Bool
-holds P a b = isOnEdge a b P
 
 -- Where edge i begins: what was searched, counted and summed before it, its start a, and a's side of the arc's plane.
 record Walked (vs : List ℤ) (X P : Point) (a : Point) (s1 crossed sum i : ℕ) : Type 0 where
@@ -38,7 +34,7 @@ record Walked (vs : List ℤ) (X P : Point) (a : Point) (s1 crossed sum i : ℕ)
   small : natAbs (toZ w32 sum) ≤ i
   start : Carried vs i a
   side : toZ w64 s1 ≡ orientationOf X P a
-  searched : Searched (isHeldBy vs P) (vertexCount vs) i
+  searched : Searched (isCoast vs P) (vertexCount vs) i
   counted : Counted (isCrossed vs X P) (vertexCount vs) i crossed
   summed : Summed (wayOf vs X P) (vertexCount vs) i (toZ w32 sum)
 
@@ -87,10 +83,17 @@ module _ (c : tie.After-end-of Inv-loop μ-loop) where
 orientation-requires-2 : tie.Need-orientation-requires-2 Inv-loop μ-loop
 orientation-requires-2 c κs = (A c, B c, entry c .pre .1)
 
-on-edge-by-requires : tie.Need-on-edge-by-requires Inv-loop μ-loop
-on-edge-by-requires c κs =
+is-coast-requires : tie.Need-is-coast-requires Inv-loop μ-loop
+is-coast-requires c κs =
+    let e = c .before in
     let s4 = c .orientation2 in
-    ((A (c .before), B (c .before), entry (c .before) .pre .1), result-same w64 (s4 .result) (s4 .ok) (s4 .ensures))
+    let more = e .before .if1 .left in (
+      (entry e .pre .0 .listed, entry e .pre .0 .gridded, more),
+      (
+        (e .before .before .loop .inv .start .start more, e .end-of .ensures),
+        (entry e .pre .1, result-same w64 (s4 .result) (s4 .ok) (s4 .ensures)),
+      ),
+    )
 
 orientation-requires-3 : tie.Need-orientation-requires-3 Inv-loop μ-loop
 orientation-requires-3 c κs = let e = c .before .before .before in (entry e .pre .0 .known, entry e .pre .1, B e)
@@ -114,10 +117,6 @@ count-way : (s : Sign) {r : ℤ} {k : ℕ} → k ≡ cond (isZero (signOf r)) 0 
 count-way negative k r = k ∙ rw r
 count-way nought k r = k ∙ rw r
 count-way positive k r = k ∙ rw r
-
-at-most-one : (t : Bool) → cond t 1 0 ≤ 1
-at-most-one true = omega arith
-at-most-one false = omega arith
 
 unit-size : (s : Sign) → natAbs (unitOf s) ≤ 1
 unit-size negative = omega arith
@@ -147,10 +146,8 @@ module _ (c : tie.After-crossing-from Inv-loop μ-loop) where
       (result-same w64 (s2 .result) (s2 .ok) (s2 .ensures)) (result-same w64 (s4 .result) (s4 .ok) (s4 .ensures))
       (walk .loop .inv .start .start (edge .before .if1 .left)) (edge .end-of .ensures)
 
-  not-held : isHeldBy (entry edge .args .vertices .now) (entry edge .args .query) (walk .loop .i) ≡ false
-  not-held =
-      tested-edge (holds (entry edge .args .query)) (c .before .before .before .on-edge-by .ensures)
-      (walk .loop .inv .start .start (edge .before .if1 .left)) (edge .end-of .ensures) (c .before .before .if2 .left)
+  no-coast : isCoast (entry edge .args .vertices .now) (entry edge .args .query) (walk .loop .i) ≡ false
+  no-coast = sym (c .before .before .before .is-coast .ensures) ∙ c .before .before .if2 .left
 
   -- the sum after edge i
   summed : Is (toZ w32 (walk .loop .sum) +ℤ toZ w32 (ofZ w32 (c .crossing-from .result)))
@@ -166,7 +163,7 @@ module _ (c : tie.After-counted Inv-loop μ-loop) where
   added = count-way (crossing (c .before)) (c .counted .ensures) (went (c .before))
 
   few-more : c .counted .result ≤ 1
-  few-more = rw added (at-most-one (not (isZero (crossing (c .before)))))
+  few-more = rw added (one-at-most (not (isZero (crossing (c .before)))))
 
 add-crossed : tie.Need-add-crossed Inv-loop μ-loop
 add-crossed c =
@@ -194,7 +191,7 @@ loop-again c =
       few = omega (arith, few-more c, inv .few);
       start = carried-step _ (edge e .end-of .ensures);
       side = result-same w64 (s2 .result) (s2 .ok) (s2 .ensures);
-      searched = searched-step more (not-held e) (inv .searched);
+      searched = searched-step more (no-coast e) (inv .searched);
       counted = rw (added c) (counted-step more (inv .counted));
       small = rw (sum .same) (sum .size);
       summed = rw (sum .same) (summed-step more (inv .summed));
@@ -208,7 +205,6 @@ returns : tie.Need-returns Inv-loop μ-loop
 unfolding verdictOf boundaryOf crossingsOf windingOf
 returns c =
     let inv = c .before .before .loop .inv in
-    let query = c .before .before .before .before .before .args .query in
     ⊎-elim
     (λ w.
     let last = searched-end (w .0 .taken) (inv .searched) in
@@ -220,7 +216,7 @@ returns c =
     ))
     (λ w.
     let more = w .0 .left in
-    let held = tested-edge (holds query) (w .3 .ensures) (inv .start .start more) (w .1 .ensures) (w .4 .taken) in
+    let held = sym (w .3 .ensures) ∙ w .4 .taken in
     c .verdict-by .ensures ∙ rw (w .5, searched-hit more held (inv .searched)))
     (c .before .if1 .came)
 
@@ -235,7 +231,7 @@ verdict-spec =
     loop-holds
     end-of-requires
     orientation-requires-2
-    on-edge-by-requires
+    is-coast-requires
     orientation-requires-3
     crossing-from-requires
     counted-requires

@@ -25,7 +25,8 @@ dot-requires c κs =
 returns : tie.Need-returns
 returns c =
     let s = c .before .before .args in
-    result-same w64 (c .dot .result) (c .dot .ok) (c .dot .ensures) ∙ ap (λ n. dotOf n (s .c)) (c .before .cross .ensures)
+    result-same w64 (c .dot .result) (c .dot .ok) (c .dot .ensures)
+    ∙ ap (λ n. dotOf n (s .c)) (c .before .cross .ensures)
     ∙ dot-comm _ (s .c) ∙ sym (orientation-cross (s .a) (s .b) (s .c))
 
 pub orientation-spec : {M : Type 1} → statement M
