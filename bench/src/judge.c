@@ -1,7 +1,8 @@
 /*
  * The library's method in plain C, for the benchmark: read the fields, decode the vertices once into an array, one pass
- * for each check, one pass for the verdict; for a feed all but the verdict once. The arithmetic is 64-bit, the turn as
- * document 01 writes it.
+ * for each check, one pass for the verdict; for a feed all but the verdict once. A pass reads each vertex once. The
+ * arithmetic is 64-bit, a turn is nine multiplications, and the verdict works out no turn twice, and turn(A,B,X) only
+ * for sides whose ends lie on different sides of the arc's plane.
  */
 #include "judge.h"
 #include <stdbool.h>
@@ -30,11 +31,6 @@ static inline point vertex(const int32_t *list, size_t i)
     return (point){list[3 * i], list[3 * i + 1], list[3 * i + 2]};
 }
 
-static inline int64_t turn(point a, point b, point c)
-{
-    return a.x * b.y * c.z + a.y * b.z * c.x + a.z * b.x * c.y - a.x * b.z * c.y - a.y * b.x * c.z - a.z * b.y * c.x;
-}
-
 static inline point cross(point a, point b)
 {
     return (point){a.y * b.z - a.z * b.y, a.z * b.x - a.x * b.z, a.x * b.y - a.y * b.x};
@@ -43,6 +39,11 @@ static inline point cross(point a, point b)
 static inline int64_t dot(point a, point b)
 {
     return a.x * b.x + a.y * b.y + a.z * b.z;
+}
+
+static inline int64_t turn(point a, point b, point c)
+{
+    return dot(cross(a, b), c);
 }
 
 static inline bool far(int64_t k)
@@ -83,9 +84,10 @@ static inline bool fractions(int64_t whole, int64_t part_a, int64_t part_b)
     return whole > 0 ? part_a >= 0 && part_b >= 0 : part_a <= 0 && part_b <= 0;
 }
 
-static inline bool on_edge(point a, point b, point p)
+/* s4 is turn(a, b, p). */
+static inline bool on_edge(point a, point b, point p, int64_t s4)
 {
-    if (turn(a, b, p) != 0)
+    if (s4 != 0)
         return false;
     point n = cross(a, b), pa = cross(p, b), pb = cross(a, p);
     if (n.x != 0)
@@ -95,10 +97,12 @@ static inline bool on_edge(point a, point b, point p)
     return fractions(n.z, pa.z, pb.z);
 }
 
-static inline bool crosses(point x, point p, point a, point b)
+static inline bool crosses(point x, point a, point b, int64_t s1, int64_t s2, int64_t s4)
 {
-    int64_t s1 = turn(x, p, a), s2 = turn(x, p, b), s3 = turn(a, b, x), s4 = turn(a, b, p);
-    return (s1 >= 0 && s2 < 0 && s3 < 0 && s4 > 0) || (s1 < 0 && s2 >= 0 && s3 > 0 && s4 < 0);
+    if ((s1 < 0) == (s2 < 0))
+        return false;
+    int64_t s3 = turn(a, b, x);
+    return s1 < 0 ? s3 > 0 && s4 < 0 : s3 < 0 && s4 > 0;
 }
 
 /* The lowest vertex, or edge, that passes the test; n if none does. */
@@ -112,10 +116,14 @@ static inline size_t first_vertex(vertex_test *bad, const int32_t *list, size_t 
 
 static inline size_t first_edge(edge_test *bad, const int32_t *list, size_t n, point known)
 {
-    size_t i = 0;
-    while (i < n && !bad(vertex(list, i), vertex(list, i + 1 < n ? i + 1 : 0), known))
-        i++;
-    return i;
+    point a = vertex(list, 0);
+    for (size_t i = 0; i < n; i++) {
+        point b = vertex(list, i + 1 < n ? i + 1 : 0);
+        if (bad(a, b, known))
+            return i;
+        a = b;
+    }
+    return n;
 }
 
 static answer refuse(uint32_t number, size_t place)
@@ -160,12 +168,17 @@ static answer verdict(const int32_t *list, size_t n, point known, point query)
         return refuse(17, 0);
     if (opposite(known, query, known))
         return refuse(18, 0);
+    point a = vertex(list, 0);
+    int64_t s1 = turn(known, query, a);
     for (size_t i = 0; i < n; i++) {
-        point a = vertex(list, i), b = vertex(list, i + 1 < n ? i + 1 : 0);
-        if (on_edge(a, b, query) && border(list, n, a, b))
+        point b = vertex(list, i + 1 < n ? i + 1 : 0);
+        int64_t s4 = turn(a, b, query);
+        if (on_edge(a, b, query, s4) && border(list, n, a, b))
             return (answer){3, i, 0};
-        if (crosses(known, query, a, b))
-            crossed++;
+        int64_t s2 = turn(known, query, b);
+        crossed += crosses(known, a, b, s1, s2, s4);
+        a = b;
+        s1 = s2;
     }
     return (answer){crossed % 2 == 0 ? 1 : 2, 0, crossed};
 }

@@ -8,19 +8,16 @@ const LIMIT: i64 = 1_048_576;
 type Vector = [i64; 3];
 type Edge = (Vector, Vector);
 
-fn turn(a: Vector, b: Vector, c: Vector) -> i64 {
-    a[0] * b[1] * c[2] + a[1] * b[2] * c[0] + a[2] * b[0] * c[1]
-        - a[0] * b[2] * c[1]
-        - a[1] * b[0] * c[2]
-        - a[2] * b[1] * c[0]
-}
-
 fn cross(a: Vector, b: Vector) -> Vector {
     [a[1] * b[2] - a[2] * b[1], a[2] * b[0] - a[0] * b[2], a[0] * b[1] - a[1] * b[0]]
 }
 
 fn dot(a: Vector, b: Vector) -> i64 {
     a[0] * b[0] + a[1] * b[1] + a[2] * b[2]
+}
+
+fn turn(a: Vector, b: Vector, c: Vector) -> i64 {
+    dot(cross(a, b), c)
 }
 
 fn beyond(p: Vector) -> bool {
@@ -43,8 +40,9 @@ fn on_circle((a, b): Edge, p: Vector) -> bool {
     turn(a, b, p) == 0
 }
 
-fn on_edge((a, b): Edge, p: Vector) -> bool {
-    if !on_circle((a, b), p) {
+/// `s4` is `turn(a, b, p)`.
+fn on_edge((a, b): Edge, p: Vector, s4: i64) -> bool {
+    if s4 != 0 {
         return false;
     }
     let normal = cross(a, b);
@@ -63,9 +61,16 @@ fn on_edge((a, b): Edge, p: Vector) -> bool {
     }
 }
 
-fn crosses((a, b): Edge, x: Vector, p: Vector) -> bool {
-    let (s1, s2, s3, s4) = (turn(x, p, a), turn(x, p, b), turn(a, b, x), turn(a, b, p));
-    (s1 >= 0 && s2 < 0 && s3 < 0 && s4 > 0) || (s1 < 0 && s2 >= 0 && s3 > 0 && s4 < 0)
+fn crosses((a, b): Edge, x: Vector, s1: i64, s2: i64, s4: i64) -> bool {
+    if (s1 < 0) == (s2 < 0) {
+        return false;
+    }
+    let s3 = turn(a, b, x);
+    if s1 < 0 {
+        s3 > 0 && s4 < 0
+    } else {
+        s3 < 0 && s4 > 0
+    }
 }
 
 fn vertex(list: &[i32], i: usize) -> Vector {
@@ -118,14 +123,18 @@ fn verdict(list: &[i32], known: Vector, query: Vector) -> Answer {
         return Answer { number: 18, place: 0, count: 0 };
     }
     let mut crossed = 0;
+    let mut s1 = turn(known, query, vertex(list, 0));
     for i in 0..list.len() / 3 {
-        let edge = ends(list, i);
-        if on_edge(edge, query) && border(list, edge) {
+        let edge @ (a, b) = ends(list, i);
+        let s4 = turn(a, b, query);
+        if on_edge(edge, query, s4) && border(list, edge) {
             return Answer { number: 3, place: i, count: 0 };
         }
-        if crosses(edge, known, query) {
+        let s2 = turn(known, query, b);
+        if crosses(edge, known, s1, s2, s4) {
             crossed += 1;
         }
+        s1 = s2;
     }
     Answer { number: if crossed % 2 == 0 { 1 } else { 2 }, place: 0, count: crossed }
 }

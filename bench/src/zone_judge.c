@@ -1,16 +1,17 @@
-/* The program zone_judge in plain C, with the C library's buffered reads and writes. */
+/* The program zone_judge in plain C: queries are read in pieces and judged as feeds, with the C library's buffers. */
 #include "judge.h"
 #include <stdio.h>
 
-static int32_t number_at(const uint8_t *b)
+#define PIECE (4096 * 12)
+
+static unsigned word_at(const uint8_t *b)
 {
-    return (int32_t)((uint32_t)b[0] << 24 | (uint32_t)b[1] << 16 | (uint32_t)b[2] << 8 | b[3]);
+    return (unsigned)b[0] << 24 | (unsigned)b[1] << 16 | (unsigned)b[2] << 8 | b[3];
 }
 
 int main(void)
 {
-    static uint8_t sheet[49305];
-    uint8_t query[12];
+    static uint8_t sheet[49305], queries[PIECE], results[PIECE];
     size_t sheet_len = 0, done = 0, got;
     FILE *file = fopen("zone.sheet", "rb");
     if (file != NULL) {
@@ -22,12 +23,12 @@ int main(void)
         printf("%u %zu 0\n", (unsigned)a.number, a.place);
         return 0;
     }
-    while ((got = fread(query, 1, sizeof query, stdin)) == sizeof query) {
-        a = c_judge(sheet, sheet_len, number_at(query), number_at(query + 4), number_at(query + 8));
-        printf("%u %zu %u\n", (unsigned)a.number, a.place, (unsigned)a.count);
-        done++;
+    while ((got = fread(queries, 1, PIECE, stdin)) != 0) {
+        c_feed(sheet, sheet_len, queries, got - got % 12, results, PIECE);
+        for (size_t at = 0; at + 12 <= got; at += 12, done++)
+            printf("%u %u %u\n", word_at(results + at), word_at(results + at + 4), word_at(results + at + 8));
+        if (got % 12 != 0)
+            printf("20 %zu 0\n", done);
     }
-    if (got != 0)
-        printf("20 %zu 0\n", done);
     return 0;
 }
