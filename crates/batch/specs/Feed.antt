@@ -1,22 +1,22 @@
 -- Document 02, P1: a feed (any number of queries to one polygon, in one call).
 -- Defined, in order: queryCount, queryAt, neededFor, resultBytes; sizeCheck (26, 27), feedCheck (26, 27, 10 to 16),
--- feedOf (the answer); resultOf (one query's result), resultsBytes, feedBytes (all of them), fedAfter, fedTo (the
--- result buffer after the call). Queries and results are numbered from 0. Assumes nothing.
-use mathlib.Core.Bool.{not, cond}
+-- feedOf (the answer); resultOf (one query's result), resultsBytes, feedBytes (all of them), fedTo (the result buffer
+-- after the call). Queries and results are numbered from 0. Assumes nothing.
+use mathlib.Core.Bool.{not}
 use mathlib.Core.List.{List, [], _++_}
 use Prim.Native.Nat.{ℕ, zero, suc, _*_, _/_, _%_}
 use lib.Dec.{eqb, ltb}
 use lib.IntN.{ℤ}
-use lib.ListN.{length, drop}
+use lib.ListN.{length}
 use Rattle.sphere.specs.declared.point.Point.{Point}
 use Rattle.big_endian.specs.Bytes.{pointAt, wordBytes}
 use Rattle.polygon.specs.declared.answer.Answer.{Answer}
 use Rattle.polygon.specs.declared.answer.Answer.the-variants.{Done}
 use Rattle.polygon.specs.declared.answer.Check.{Check}
-use Rattle.polygon.specs.declared.answer.Check.the-variants.{Passed, Failed}
 use Rattle.polygon.specs.Answer.{numberOf, placeOf, countOf, answerAfter}
-use Rattle.polygon.specs.Checks.{_then_, failsIf, acceptCheck}
+use Rattle.polygon.specs.Checks.{_then_, failsHere, failsIf, acceptCheck}
 use Rattle.polygon.specs.Verdict.{answerOf}
+use Rattle.batch.specs.Buffer.{bufferAfter}
 
 -- ---- twelve bytes a query, twelve bytes a result
 
@@ -38,7 +38,7 @@ resultBytes a = wordBytes (numberOf a) ++ (wordBytes (placeOf a) ++ wordBytes (c
 unfoldable pub sizeCheck : List ℕ → ℕ → Check
 sizeCheck queries room =
     failsIf 26 (not (eqb (length queries % 12) 0))
-    then cond (ltb room (neededFor queries)) (Failed 27 (neededFor queries)) Passed
+    then failsHere 27 (neededFor queries) (ltb room (neededFor queries))
 
 unfoldable pub feedCheck : ℕ → List ℤ → Point → List ℕ → ℕ → Check
 feedCheck limit vs X queries room = sizeCheck queries room then acceptCheck limit vs X
@@ -61,11 +61,7 @@ resultsBytes result (suc n) = resultsBytes result n ++ result n
 unfoldable pub feedBytes : ℕ → List ℤ → Point → List ℕ → List ℕ
 feedBytes limit vs X queries = resultsBytes (resultOf limit vs X queries) (queryCount queries)
 
--- The buffer after the call: the results in front and the other bytes as they were, or all as it was.
-abbrev pub fedAfter : Check → List ℕ → List ℕ → List ℕ
-fedAfter (Failed number place) bytes buffer = buffer
-fedAfter Passed bytes buffer = bytes ++ drop (length bytes) buffer
-
+-- The result buffer after the call.
 unfoldable pub fedTo : ℕ → List ℤ → Point → List ℕ → List ℕ → List ℕ
 fedTo limit vs X queries buffer =
-    fedAfter (feedCheck limit vs X queries (length buffer)) (feedBytes limit vs X queries) buffer
+    bufferAfter (feedCheck limit vs X queries (length buffer)) (feedBytes limit vs X queries) buffer

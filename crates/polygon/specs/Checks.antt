@@ -1,8 +1,8 @@
 -- Document 01's lines 10 to 18, each as its own check, and their order: the lowest number that holds, over the whole
--- list. Defined, in order: _then_, failsIf, failsAt; listCheck (10), beyondCheck (11), nullCheck (12), sameCheck
--- (13), antipodalCheck (14), referenceCheck (15), circleCheck (16), queryCheck (17), farCheck (18); polygonCheck (10
--- to 14), acceptCheck (10 to 16), judgeCheck (10 to 18). The reference point is document 01's known point. Assumes
--- nothing.
+-- list. Defined, in order: _then_, failsHere, failsIf, failsAt; listCheck (10), beyondCheck (11), nullCheck (12),
+-- sameCheck (13), antipodalCheck (14), referenceCheck (15), circleCheck (16), queryCheck (17), farCheck (18);
+-- polygonCheck (10 to 14), acceptCheck (10 to 16), judgeCheck (10 to 18). The reference point is document 01's known
+-- point. Assumes nothing.
 use mathlib.Core.Bool.{Bool, not, _&&_, cond}
 use mathlib.Core.List.{List}
 use Prim.Native.Nat.{ℕ, _/_, _%_}
@@ -27,9 +27,12 @@ abbrev pub _then_ : Check → Check → Check
 Passed then next = next
 Failed number place then next = Failed number place
 
--- A check of one thing, with place 0, and of a list, with the lowest place.
+-- A check of one thing, with its place or with place 0, and of a list, with the lowest place.
+abbrev pub failsHere : ℕ → ℕ → Bool → Check
+failsHere number place bad = cond bad (Failed number place) Passed
+
 abbrev pub failsIf : ℕ → Bool → Check
-failsIf number bad = cond bad (Failed number 0) Passed
+failsIf number bad = failsHere number 0 bad
 
 abbrev pub failsAt : ℕ → Found → Check
 failsAt number Nothing = Passed

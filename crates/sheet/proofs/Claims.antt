@@ -15,14 +15,13 @@ use Rattle.polygon.specs.declared.answer.Check.{Check}
 use Rattle.polygon.specs.declared.answer.Check.the-variants.{Passed, Failed}
 use Rattle.polygon.specs.Answer.{numberOf, answerAfter}
 use Rattle.polygon.specs.Checks.{acceptCheck}
-use Rattle.polygon.proofs.Laws.Checks.{then-passed}
+use Rattle.polygon.proofs.Laws.Checks.{here-passed, then-passed}
 use Rattle.sheet.specs.Fields.{isAllowed, isCharset, fieldCheck, charsetStart, nameStart, sheetEnd}
 use Rattle.sheet.specs.Fields.{charsetCheck, sheetFields, restCheck, fieldsCheck}
 use Rattle.sheet.specs.Sheet.{charsetOf, nameOf, knownOf, verticesOf, sheetCheck, readAfter, readOf}
 use Rattle.sheet.specs.Write.{fieldBytes, sheetBytes, neededFor, inputCheck, writeCheck, writeOf, writtenTo}
 use Rattle.sheet.specs.Claims.{WrittenReadsBack, ReadWritesBack, ReadNeverTen, SheetSize, OctantSheet}
 use Rattle.sheet.specs.Claims.{octantBytes}
-use Rattle.sheet.proofs.Laws.Checks.{here-passed}
 use Rattle.sheet.proofs.Laws.Fields.{passed-field, passed-fields, passed-spans}
 use Rattle.sheet.proofs.Laws.Stores.{sheetBytes-length}
 use Rattle.sheet.proofs.Laws.Kept.{nameOf-length, verticesOf-length, sheet-kept}

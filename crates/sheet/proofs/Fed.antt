@@ -13,7 +13,8 @@ use Rattle.polygon.specs.declared.answer.Check.the-variants.{Passed, Failed}
 use Rattle.polygon.specs.Answer.{answerAfter}
 use Rattle.polygon.specs.Verdict.{answerOf}
 use Rattle.polygon.proofs.Laws.Checks.{then-passed}
-use Rattle.batch.specs.Feed.{sizeCheck, queryAt, feedBytes, fedAfter}
+use Rattle.batch.specs.Buffer.{bufferAfter}
+use Rattle.batch.specs.Feed.{sizeCheck, queryAt, feedBytes}
 use Rattle.batch.specs.Claims.{Encodes, Fed}
 use Rattle.batch.proofs.Laws.Ends.{size-passed}
 use Rattle.batch.proofs.Laws.Fed.{fed-results}
@@ -45,7 +46,7 @@ module _ (b queries buffer : List ℕ) (done : sheetFeedOf b queries (length buf
   single P = rw (passed .1)
 
   after : List ℕ
-  after = fedAfter Passed (feedBytes coarse (verticesOf b) (knownOf b) queries) buffer
+  after = bufferAfter Passed (feedBytes coarse (verticesOf b) (knownOf b) queries) buffer
 
   fed : Fed coarse (verticesOf b) (knownOf b) queries buffer after
   unfolding after

@@ -1,20 +1,16 @@
 -- Document 01, 'The zone sheet', first layer: the fields, by bytes alone. Refusals 20 to 24, each with its place.
--- Defined, in order: failsHere; isAllowed, fieldEnd, fieldCheck (one field: 20, 21, 22, 20); charsetStart, nameStart,
+-- Defined, in order: isAllowed, fieldEnd, fieldCheck (one field: 20, 21, 22, 20); charsetStart, nameStart,
 -- knownStart, verticesStart, sheetEnd; zoneCheck, isCharset, charsetCheck, isNameLength, nameCheck, knownCheck,
 -- verticesCheck; sheetFields (20 to 23), restCheck (24), fieldsCheck. A field begins at its tag. What the fields mean
 -- is in specs/Sheet. Assumes nothing.
-use mathlib.Core.Bool.{Bool, not, _&&_, cond}
+use mathlib.Core.Bool.{Bool, not, _&&_}
 use mathlib.Core.List.{List}
 use Prim.Native.Nat.{ℕ, _+_, _%_}
 use lib.Dec.{eqb, leb, ltb}
 use lib.ListN.{length}
 use Rattle.big_endian.specs.Bytes.{byteAt, shortAt}
 use Rattle.polygon.specs.declared.answer.Check.{Check}
-use Rattle.polygon.specs.declared.answer.Check.the-variants.{Passed, Failed}
-use Rattle.polygon.specs.Checks.{_then_}
-
-abbrev pub failsHere : ℕ → ℕ → Bool → Check
-failsHere number place bad = cond bad (Failed number place) Passed
+use Rattle.polygon.specs.Checks.{_then_, failsHere}
 
 -- ---- one field: a tag, two bytes of length, the body
 

@@ -12,7 +12,8 @@ use Rattle.polygon.specs.declared.answer.Check.{Check}
 use Rattle.polygon.specs.Answer.{answerAfter}
 use Rattle.polygon.specs.Checks.{_then_}
 use Rattle.polygon.specs.Verdict.{answerOf}
-use Rattle.batch.specs.Feed.{sizeCheck, feedBytes, fedAfter}
+use Rattle.batch.specs.Buffer.{bufferAfter}
+use Rattle.batch.specs.Feed.{sizeCheck, feedBytes}
 use Rattle.sheet.specs.Sheet.{knownOf, verticesOf, sheetCheck}
 
 unfoldable pub sheetAnswerOf : List ℕ → Point → Answer
@@ -28,4 +29,4 @@ sheetFeedOf b queries room = answerAfter (sheetFeedCheck b queries room) (Done 0
 -- The result buffer after the call: the results in front, or all as it was.
 unfoldable pub sheetFedTo : List ℕ → List ℕ → List ℕ → List ℕ
 sheetFedTo b queries buffer =
-    fedAfter (sheetFeedCheck b queries (length buffer)) (feedBytes coarse (verticesOf b) (knownOf b) queries) buffer
+    bufferAfter (sheetFeedCheck b queries (length buffer)) (feedBytes coarse (verticesOf b) (knownOf b) queries) buffer

@@ -1,22 +1,22 @@
 -- Document 01, 'The zone sheet': the bytes of a sheet, and what writing one does on every input.
 -- Defined, in order: fieldBytes, sheetBytes, neededFor, Storable; inputCheck (23, 22, 10 to 16), writeCheck (25
--- too), writeOf, writtenAfter, writtenTo. Assumes nothing.
+-- too), writeOf, writtenTo. Assumes nothing.
 use mathlib.Core.Bool.{not}
 use mathlib.Core.List.{List, [], _∷_, _++_}
 use Prim.Native.Nat.{ℕ, _+_, _*_, _≤_, _<_}
 use lib.Dec.{ltb}
 use lib.IntN.{ℤ}
-use lib.ListN.{length, drop}
+use lib.ListN.{length}
 use Rattle.sphere.specs.declared.point.Point.{Point}
 use Rattle.sphere.specs.Point.{coarse, Within}
 use Rattle.big_endian.specs.Bytes.{shortBytes, wordBytes, intsBytes, pointBytes}
 use Rattle.polygon.specs.declared.answer.Answer.{Answer}
 use Rattle.polygon.specs.declared.answer.Answer.the-variants.{Done}
 use Rattle.polygon.specs.declared.answer.Check.{Check}
-use Rattle.polygon.specs.declared.answer.Check.the-variants.{Passed, Failed}
 use Rattle.polygon.specs.Answer.{answerAfter}
-use Rattle.polygon.specs.Checks.{_then_, failsIf, acceptCheck}
-use Rattle.sheet.specs.Fields.{failsHere, isCharset, isNameLength}
+use Rattle.polygon.specs.Checks.{_then_, failsHere, failsIf, acceptCheck}
+use Rattle.batch.specs.Buffer.{bufferAfter}
+use Rattle.sheet.specs.Fields.{isCharset, isNameLength}
 
 -- A field: its tag, its length, its body.
 unfoldable pub fieldBytes : ℕ → List ℕ → List ℕ
@@ -58,12 +58,8 @@ unfoldable pub writeOf : ℕ → List ℕ → Point → List ℤ → ℕ → Ans
 writeOf charset name known vertices room =
     answerAfter (writeCheck charset name known vertices room) (Done (neededFor name vertices))
 
--- The buffer after writing: the sheet in front and the other bytes as they were, or all as it was.
-abbrev pub writtenAfter : Check → List ℕ → List ℕ → List ℕ
-writtenAfter (Failed number place) sheet buffer = buffer
-writtenAfter Passed sheet buffer = sheet ++ drop (length sheet) buffer
-
+-- The buffer after the call.
 unfoldable pub writtenTo : ℕ → ℕ → List ℕ → Point → List ℤ → List ℕ → List ℕ
 writtenTo zone charset name known vertices buffer =
-    writtenAfter (writeCheck charset name known vertices (length buffer))
+    bufferAfter (writeCheck charset name known vertices (length buffer))
     (sheetBytes zone charset name known vertices) buffer

@@ -11,7 +11,8 @@ use lib.Seq.{sets, sets-eq, length-sets, drop-at}
 use Rattle.sphere.specs.declared.point.Point.{Point}
 use Rattle.polygon.specs.declared.answer.Check.the-variants.{Passed}
 use Rattle.polygon.specs.Checks.{acceptCheck}
-use Rattle.batch.specs.Feed.{queryCount, queryAt, neededFor, resultOf, feedBytes, fedAfter}
+use Rattle.batch.specs.Buffer.{bufferAfter}
+use Rattle.batch.specs.Feed.{queryCount, queryAt, neededFor, resultOf, feedBytes}
 use Rattle.batch.specs.Claims.{Fed}
 use Rattle.batch.proofs.Laws.Small.{answer-small}
 use Rattle.batch.proofs.Laws.Results.{resultBytes-length, resultsBytes-length, result-at, result-read}
@@ -23,13 +24,13 @@ module _ (limit : ℕ) (vs : List ℤ) (X : Point) (queries : List ℕ) where
 
   module _ (buffer : List ℕ) where
     -- The results in front, the rest as it was.
-    fed-front : fedAfter Passed (feedBytes limit vs X queries) buffer
+    fed-front : bufferAfter Passed (feedBytes limit vs X queries) buffer
         ≡ feedBytes limit vs X queries ++ drop (neededFor queries) buffer
     fed-front = ap (λ (k : ℕ). feedBytes limit vs X queries ++ drop k buffer) feedBytes-length
 
     module _ (enough : neededFor queries ≤ length buffer) where
       pub fed-stored : sets buffer 0 (feedBytes limit vs X queries)
-          ≡ fedAfter Passed (feedBytes limit vs X queries) buffer
+          ≡ bufferAfter Passed (feedBytes limit vs X queries) buffer
       fed-stored =
           let bytes = feedBytes limit vs X queries in
           let z : 0 + length bytes ≡ length bytes = omega arith in
@@ -37,7 +38,7 @@ module _ (limit : ℕ) (vs : List ℤ) (X : Point) (queries : List ℕ) where
           ∙ ap (λ (k : ℕ). bytes ++ drop k buffer) z
 
       pub fed-results : acceptCheck limit vs X ≡ Passed →
-          Fed limit vs X queries buffer (fedAfter Passed (feedBytes limit vs X queries) buffer)
+          Fed limit vs X queries buffer (bufferAfter Passed (feedBytes limit vs X queries) buffer)
       unfolding feedBytes
       fed-results ok =
           let after = drop (neededFor queries) buffer in

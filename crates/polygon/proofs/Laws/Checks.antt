@@ -1,8 +1,8 @@
 -- What a check that passed establishes.
--- Proved, in order: fails-if-passed, fails-at-passed, then-passed; list-passed, beyond-passed, reference-passed,
--- query-passed, circle-passed; polygon-passed, accept-passed; Reference (all that lines 10 to 16 say of a reference
--- point), reference-accepted, reference→query. The checks 12 to 14 establish facts that no proof rests on.
--- Assumes nothing.
+-- Proved, in order: failed-not-passed, here-passed, fails-at-passed, then-passed; list-passed, beyond-passed,
+-- reference-passed, query-passed, circle-passed; polygon-passed, accept-passed; Reference (all that lines 10 to 16 say
+-- of a reference point), reference-accepted, reference→query. The checks 12 to 14 establish facts that no proof rests
+-- on. Assumes nothing.
 use mathlib.Core.Path.{_≡_, refl, sym, _∙_, ap}
 use mathlib.Core.Bool.{Bool, true, false, not, _&&_, true≢false}
 use mathlib.Core.List.{List}
@@ -23,19 +23,19 @@ use Rattle.polygon.specs.declared.answer.Check.{Check}
 use Rattle.polygon.specs.declared.answer.Check.the-variants.{Passed, Failed}
 use Rattle.polygon.specs.Search.{firstFrom}
 use Rattle.polygon.specs.Vertices.{vertexCount, vertexAt, startOf, endOf}
-use Rattle.polygon.specs.Checks.{_then_, failsIf, failsAt, isVertexList, polygonCheck, acceptCheck}
+use Rattle.polygon.specs.Checks.{_then_, failsHere, failsIf, failsAt, isVertexList, polygonCheck, acceptCheck}
 use Rattle.polygon.specs.Checks.{listCheck, beyondCheck, nullCheck, sameCheck, antipodalCheck}
 use Rattle.polygon.specs.Checks.{referenceCheck, circleCheck, queryCheck}
 use Rattle.polygon.specs.Accepted.{Listed, Gridded, Accepted}
 use Rattle.polygon.proofs.Laws.Search.{first-none}
 
 -- A refusal is no pass.
-failed-not-passed : {number place : ℕ} {A : Type 0} → Failed number place ≡ Passed → A
+pub failed-not-passed : {number place : ℕ} {A : Type 0} → Failed number place ≡ Passed → A
 failed-not-passed e = let z : _≡_ {A = ℕ} 0 1 = cc in absurd (omega arith)
 
-pub fails-if-passed : (number : ℕ) (bad : Bool) → failsIf number bad ≡ Passed → bad ≡ false
-fails-if-passed number true e = failed-not-passed e
-fails-if-passed number false e = refl
+pub here-passed : (number place : ℕ) (bad : Bool) → failsHere number place bad ≡ Passed → bad ≡ false
+here-passed number place true e = failed-not-passed e
+here-passed number place false e = refl
 
 pub fails-at-passed : (number : ℕ) (found : Found) → failsAt number found ≡ Passed → found ≡ Nothing
 fails-at-passed number Nothing e = refl
@@ -57,7 +57,7 @@ pub list-passed : {vs : List ℤ} → listCheck vs ≡ Passed → Listed vs
 unfolding listCheck
 list-passed {vs} e =
     let n = vertexCount vs in
-    let h = both-true (eqb (length vs % 3) 0) (leb 3 n) (leb n 4096) (fails-if-passed 10 (not (isVertexList vs)) e) in
+    let h = both-true (eqb (length vs % 3) 0) (leb 3 n) (leb n 4096) (here-passed 10 0 (not (isVertexList vs)) e) in
     record { least = leb-true 3 n (h .0); most = leb-true n 4096 (h .1) }
 
 pub beyond-passed : {limit : ℕ} {vs : List ℤ} → beyondCheck limit vs ≡ Passed → Gridded limit vs
@@ -71,11 +71,11 @@ beyond-passed {limit} {vs} e = let test : ℕ → Bool = λ i. isBeyond limit (v
 
 pub reference-passed : {limit : ℕ} {X : Point} → referenceCheck limit X ≡ Passed → Within limit X
 unfolding referenceCheck
-reference-passed {limit} {X} e = off-grid→within limit X (fails-if-passed 15 (isOffGrid limit X) e)
+reference-passed {limit} {X} e = off-grid→within limit X (here-passed 15 0 (isOffGrid limit X) e)
 
 pub query-passed : {limit : ℕ} {P : Point} → queryCheck limit P ≡ Passed → Within limit P
 unfolding queryCheck
-query-passed {limit} {P} e = off-grid→within limit P (fails-if-passed 17 (isOffGrid limit P) e)
+query-passed {limit} {P} e = off-grid→within limit P (here-passed 17 0 (isOffGrid limit P) e)
 
 -- X is off the great circle of each edge.
 abbrev pub OffCircles : List ℤ → Point → Type 0
@@ -130,5 +130,5 @@ module _ (limit : ℕ) (vs : List ℤ) (X : Point) (e : acceptCheck limit vs X �
   unfolding referenceCheck queryCheck
   reference→query =
       ap (failsIf 17)
-      (fails-if-passed 15 (isOffGrid limit X) (then-passed (referenceCheck limit X) (circleCheck vs X) after-polygon
+      (here-passed 15 0 (isOffGrid limit X) (then-passed (referenceCheck limit X) (circleCheck vs X) after-polygon
       .0))

@@ -15,7 +15,7 @@ use Rattle.sphere.specs.Point.{coarse, Fits, Within}
 use Rattle.polygon.specs.declared.answer.Check.the-variants.{Passed}
 use Rattle.polygon.specs.Vertices.{vertexCount, vertexAt}
 use Rattle.polygon.specs.Checks.{listCheck, polygonCheck, acceptCheck}
-use Rattle.polygon.proofs.Laws.Checks.{fails-if-passed, then-passed, accept-passed}
+use Rattle.polygon.proofs.Laws.Checks.{here-passed, then-passed, accept-passed}
 use Rattle.sheet.proofs.Laws.Checks.{and-true}
 
 -- A list that line 10 lets through.
@@ -38,7 +38,7 @@ module _ (limit : ℕ) (vs : List ℤ) (X : Point) (ok : acceptCheck limit vs X 
   pub accepted-list : Whole vs
   unfolding listCheck
   accepted-list =
-      let one = and-true _ _ (not-false _ (fails-if-passed 10 _ list-check)) in
+      let one = and-true _ _ (not-false _ (here-passed 10 0 _ list-check)) in
       let two = and-true _ _ (one .1) in
       record {
         threes = eqb-true (length vs % 3) 0 (one .0);

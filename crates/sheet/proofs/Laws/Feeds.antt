@@ -9,7 +9,8 @@ use Rattle.polygon.specs.declared.answer.Answer.the-variants.{Done}
 use Rattle.polygon.specs.declared.answer.Check.{Check}
 use Rattle.polygon.specs.declared.answer.Check.the-variants.{Passed, Failed}
 use Rattle.polygon.specs.Answer.{answerAfter}
-use Rattle.batch.specs.Feed.{sizeCheck, feedBytes, fedAfter}
+use Rattle.batch.specs.Buffer.{bufferAfter}
+use Rattle.batch.specs.Feed.{sizeCheck, feedBytes}
 use Rattle.sheet.specs.Sheet.{knownOf, verticesOf, sheetCheck}
 use Rattle.sheet.specs.Judge.{sheetFeedCheck, sheetFeedOf, sheetFedTo}
 use Rattle.sheet.proofs.Laws.Checks.{then-failed, then-next}
@@ -26,7 +27,7 @@ module _ (b queries : List ℕ) where
 
   pub record Ends (buffer : List ℕ) (check : Check) : Type 0 where
     pub answered : sheetFeedOf b queries (length buffer) ≡ answerAfter check (Done 0)
-    pub filled : sheetFedTo b queries buffer ≡ fedAfter check (feedBytes coarse (verticesOf b) (knownOf b) queries)
+    pub filled : sheetFedTo b queries buffer ≡ bufferAfter check (feedBytes coarse (verticesOf b) (knownOf b) queries)
         buffer
 
   pub feed-ends : (buffer : List ℕ) {check : Check} → sheetFeedCheck b queries (length buffer) ≡ check →
@@ -34,5 +35,5 @@ module _ (b queries : List ℕ) where
   unfolding sheetFeedOf sheetFedTo
   feed-ends buffer e = record {
     answered = ap (λ (c : Check). answerAfter c (Done 0)) e;
-    filled = ap (λ (c : Check). fedAfter c (feedBytes coarse (verticesOf b) (knownOf b) queries) buffer) e;
+    filled = ap (λ (c : Check). bufferAfter c (feedBytes coarse (verticesOf b) (knownOf b) queries) buffer) e;
   }

@@ -11,11 +11,11 @@ use borrow.Author.Tests.{lt-ltb, le-ltb, le-leb, eq-eqb, ne-eqb, ltb-false, eqb-
 use lib.ListN.{length}
 use Rattle.big_endian.specs.Bytes.{byteAt, shortAt}
 use Rattle.polygon.specs.declared.answer.Check.the-variants.{Passed, Failed}
-use Rattle.polygon.proofs.Laws.Checks.{then-passed}
+use Rattle.polygon.proofs.Laws.Checks.{here-passed, then-passed}
 use Rattle.sheet.specs.Fields.{isAllowed, fieldCheck, fieldEnd, charsetStart, nameStart, knownStart}
 use Rattle.sheet.specs.Fields.{verticesStart, sheetEnd, zoneCheck, charsetCheck, nameCheck, knownCheck}
 use Rattle.sheet.specs.Fields.{verticesCheck, sheetFields}
-use Rattle.sheet.proofs.Laws.Checks.{and-true, here-passed}
+use Rattle.sheet.proofs.Laws.Checks.{and-true}
 
 -- What is so of a field that passes.
 pub record Field (tag : ℕ) (isLength : ℕ → Bool) (b : List ℕ) (at : ℕ) : Type 0 where

@@ -22,14 +22,13 @@ use Rattle.polygon.specs.declared.answer.Check.{Check}
 use Rattle.polygon.specs.declared.answer.Check.the-variants.{Passed, Failed}
 use Rattle.polygon.specs.Search.{firstFrom}
 use Rattle.polygon.specs.Vertices.{vertexCount, vertexAt, startOf, endOf}
-use Rattle.polygon.specs.Checks.{_then_, failsAt, listCheck, beyondCheck, nullCheck, sameCheck, antipodalCheck}
-use Rattle.polygon.specs.Checks.{isVertexList, referenceCheck, circleCheck, polygonCheck, acceptCheck}
-use Rattle.polygon.proofs.Laws.Checks.{then-passed}
-use Rattle.sheet.specs.Fields.{failsHere, isAllowed, isCharset, fieldEnd, fieldCheck, knownStart, verticesStart}
+use Rattle.polygon.specs.Checks.{_then_, failsHere, failsAt, isVertexList, listCheck, beyondCheck, nullCheck}
+use Rattle.polygon.specs.Checks.{sameCheck, antipodalCheck, referenceCheck, circleCheck, polygonCheck, acceptCheck}
+use Rattle.polygon.proofs.Laws.Checks.{failed-not-passed, then-passed}
+use Rattle.sheet.specs.Fields.{isAllowed, isCharset, fieldEnd, fieldCheck, knownStart, verticesStart}
 use Rattle.sheet.specs.Fields.{sheetEnd, charsetCheck, sheetFields, restCheck, fieldsCheck}
 use Rattle.sheet.specs.Sheet.{knownOf, vertexCountOf, verticesOf, sheetCheck}
 use Rattle.sheet.specs.Write.{neededFor, inputCheck, writeCheck}
-use Rattle.sheet.proofs.Laws.Checks.{failed-not-passed}
 use Rattle.sheet.proofs.Laws.Fields.{passed-spans}
 use Rattle.sheet.proofs.Laws.Accepted.{Whole, whole-passed}
 
@@ -38,7 +37,7 @@ pub record Above (m : ℕ) (c : Check) : Type 0 where
   pub number : (n p : ℕ) → c ≡ Failed n p → m < n
 
 passed-above : {m : ℕ} → Above m Passed
-passed-above = record { number = λ n p e. absurd (failed-not-passed n p (sym e)) }
+passed-above = record { number = λ n p e. failed-not-passed (sym e) }
 
 failed-above : {m n p : ℕ} → m < n → Above m (Failed n p)
 failed-above h = record { number = λ k q e. let z = same e in omega arith }

@@ -15,10 +15,10 @@ use Rattle.sphere.specs.Point.{coarse}
 use Rattle.polygon.specs.declared.answer.Answer.{Answer}
 use Rattle.polygon.specs.declared.answer.Answer.the-variants.{Done, Refused}
 use Rattle.polygon.specs.declared.answer.Check.the-variants.{Passed, Failed}
-use Rattle.polygon.proofs.Laws.Checks.{then-passed}
+use Rattle.polygon.proofs.Laws.Checks.{here-passed, then-passed}
 use Rattle.sheet.specs.Fields.{isCharset}
 use Rattle.sheet.specs.Write.{sheetBytes, neededFor, Storable, inputCheck, writeCheck, writeOf, writtenTo}
-use Rattle.sheet.proofs.Laws.Checks.{and-true, then-failed, then-next, here-passed}
+use Rattle.sheet.proofs.Laws.Checks.{and-true, then-failed, then-next}
 use Rattle.sheet.proofs.Laws.Fields.{allowed-bounds}
 use Rattle.sheet.proofs.Laws.Accepted.{accepted-list, accepted-known, within-word}
 use Rattle.sheet.proofs.Laws.Written.{Writable}
