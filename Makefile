@@ -4,7 +4,7 @@
 # make bin        target/bin/zone_judge, the program
 # make install    header, archive and pkg-config file under PREFIX (no spaces in it)
 # make host-test  the host tests alone
-# make bench      the library and the program against Rust and C, as ratios
+# make bench      the library and the program against Rust and C, as ratios of times and instructions
 # make fmt        the layout that the gate asks for
 SHELL := /bin/bash
 .SHELLFLAGS := -o pipefail -ec

@@ -1,4 +1,4 @@
-//! Compiles the C contestants: an archive with the call, and the program.
+//! Compiles the C contestants: an archive with the calls, and the program.
 
 use std::env;
 use std::process::Command;
@@ -9,12 +9,13 @@ fn main() {
         let status = Command::new(program).args(words).status();
         assert!(status.expect(program).success(), "{program} {words:?}");
     };
-    let [object, archive, program] =
-        ["judge.o", "libjudge.a", "zone_judge"].map(|name| format!("{out}/{name}"));
+    let [outline, judge, archive, program] =
+        ["outline.o", "judge.o", "libjudge.a", "zone_judge"].map(|name| format!("{out}/{name}"));
     let cc = |words: &[&str]| run("cc", &[&["-std=c11", "-O3", "-Wall", "-Wextra"], words].concat());
-    cc(&["-c", "src/judge.c", "-o", &object]);
-    run("ar", &["rcs", &archive, &object]);
-    cc(&["src/zone_judge.c", &object, "-o", &program]);
+    cc(&["-c", "src/outline.c", "-o", &outline]);
+    cc(&["-c", "src/judge.c", "-o", &judge]);
+    run("ar", &["rcs", &archive, &outline, &judge]);
+    cc(&["src/zone_judge.c", &archive, "-o", &program]);
     println!("cargo:rustc-link-search=native={out}");
     println!("cargo:rustc-link-lib=static=judge");
     println!("cargo:rerun-if-changed=src");

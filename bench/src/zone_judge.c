@@ -1,13 +1,9 @@
 /* The program zone_judge in plain C: queries are read in pieces and judged as feeds, with the C library's buffers. */
+#include "bytes.h"
 #include "judge.h"
 #include <stdio.h>
 
 #define PIECE (4096 * 12)
-
-static unsigned word_at(const uint8_t *b)
-{
-    return (unsigned)b[0] << 24 | (unsigned)b[1] << 16 | (unsigned)b[2] << 8 | b[3];
-}
 
 int main(void)
 {

@@ -31,6 +31,8 @@ mod outlines;
 mod program;
 #[cfg(test)]
 mod winding;
+#[cfg(test)]
+mod yardstick;
 
 /// A point as a caller hands it over: any three numbers, on the grid or not.
 pub type Point = [i32; 3];

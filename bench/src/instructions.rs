@@ -1,0 +1,46 @@
+//! The instructions of a feed call, counted by valgrind's callgrind: a number that other work on the machine leaves
+//! alone.
+
+use crate::feeds::{others, Feed, Work, CONTESTANTS};
+use crate::ratios;
+use spargolutta_tests::host::{command, Folder};
+use std::path::Path;
+use std::{env, fs};
+
+/// Callgrind collects while this runs.
+#[no_mangle]
+#[inline(never)]
+fn counted_feed(feed: Feed, sheet: &[u8], queries: &[u8], results: &mut [u8]) -> u32 {
+    feed(sheet, queries, results)
+}
+
+/// One feed of the folder's sheet and queries.
+pub fn feed_once(folder: &Path, contestant: &str) {
+    let [sheet, queries] = ["sheet", "queries"].map(|name| fs::read(folder.join(name)).expect("file"));
+    let (_, feed) = CONTESTANTS.into_iter().find(|(name, _)| *name == contestant).expect("contestant");
+    assert_eq!(counted_feed(feed, &sheet, &queries, &mut vec![0; queries.len()]), 0);
+}
+
+/// Millions of instructions; none if there is no valgrind.
+fn count(folder: &Folder, contestant: &str) -> Option<f64> {
+    let mut valgrind = command("valgrind", ["--tool=callgrind", "--toggle-collect=counted_feed"]);
+    valgrind.arg(format!("--callgrind-out-file={}", folder.path("out").display()));
+    valgrind.arg(env::current_exe().expect("program")).arg(folder.path("")).arg(contestant);
+    let output = valgrind.output().ok()?;
+    let text = String::from_utf8_lossy(&output.stderr);
+    let number = text.lines().find_map(|line| line.split("Collected : ").nth(1)?.parse::<f64>().ok());
+    assert!(output.status.success() && number.is_some(), "{text}");
+    number.map(|instructions| instructions / 1e6)
+}
+
+pub fn compare(works: &[Work]) {
+    println!("Instructions of the same feeds, ours to {}:", others());
+    for work in works {
+        let folder = Folder::new("instructions");
+        folder.write("sheet", &work.sheet);
+        folder.write("queries", &work.queries);
+        let counts: Option<Vec<f64>> = CONTESTANTS.iter().map(|(name, _)| count(&folder, name)).collect();
+        let Some(counts) = counts else { return println!("  not counted: there is no valgrind here") };
+        println!("{:>24}: {}", work.name, ratios(&counts, "million"));
+    }
+}

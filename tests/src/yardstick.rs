@@ -1,0 +1,84 @@
+//! Document 02's P13: the feed writes the bytes that the benchmark's yardsticks write.
+
+use crate::compare::Tally;
+use crate::islands::{islands, queries, EXTENTS, QUERIES, SIDES};
+use crate::library;
+use crate::outlines::{sheet_and_queries, Source};
+use crate::program::refused_sheets;
+use crate::random::Random;
+use crate::sheet::{octant, points_bytes};
+use spargolutta_yardstick::{hoisted, literal, Answer};
+
+type Feed = fn(&[u8], &[u8], &mut [u8]) -> Answer;
+
+const YARDSTICKS: [(&str, Feed); 2] = [("literal", literal::feed), ("hoisted", hoisted::feed)];
+
+/// The feed and both yardsticks give the same answer and leave the same buffer. The answer comes back.
+fn alike(sheet: &[u8], queries: &[u8], buffer: &mut [u8]) -> Answer {
+    let before = buffer.to_vec();
+    let number = library::feed_number(sheet, queries, buffer);
+    let place = library::feed_place(sheet, queries, buffer.len());
+    let answer = (number, place, library::feed_count(sheet, queries, buffer.len()));
+    for (name, feed) in YARDSTICKS {
+        let mut after = before.clone();
+        assert_eq!(feed(sheet, queries, &mut after), answer, "{name}");
+        let differs = buffer.chunks(12).zip(after.chunks(12)).position(|(ours, theirs)| ours != theirs);
+        let begins = &sheet[..sheet.len().min(200)];
+        assert_eq!(differs, None, "{name}: the first result that differs; the sheet begins {begins:02x?}");
+    }
+    answer
+}
+
+/// A feed that succeeds, into a buffer with room left; its results are counted.
+fn compare(tally: &mut Tally, sheet: &[u8], queries: &[u8]) {
+    let mut buffer = vec![0; queries.len() + 7];
+    assert_eq!(alike(sheet, queries, &mut buffer), (0, 0, 0));
+    for result in buffer.chunks_exact(12) {
+        tally.count(u32::from_be_bytes(result[..4].try_into().expect("four bytes")));
+    }
+}
+
+/// The work of the benchmark.
+#[test]
+fn islands_alike() {
+    let mut tally = Tally::default();
+    for extent in EXTENTS {
+        for sides in [64, 1_024, SIDES, 4_096] {
+            let islands = islands(1, sides, extent);
+            compare(&mut tally, &islands.sheet(), &points_bytes(&queries(2, &islands, QUERIES)));
+        }
+    }
+    tally.report("yardsticks, islands", 12 * QUERIES as u64, [1, 2, 3, 18]);
+}
+
+/// Outlines and queries that meet, lie on one line or have one direction.
+#[test]
+fn coincidences_alike() {
+    let mut tally = Tally::default();
+    let families = [1, 2, 3, 5, 9, 1_048_576].map(Source::Within).into_iter().chain([Source::Limits]);
+    for (seed, source) in families.enumerate() {
+        let random = &mut Random::new(90 + seed as u64);
+        for most in (0..1_000).map(|k| if k % 50 == 0 { 200 } else { 12 }) {
+            let (sheet, asked) = sheet_and_queries(random, source, most, 40);
+            let queries = points_bytes(&asked);
+            if library::number(&sheet, [0; 3]) == 17 {
+                compare(&mut tally, &sheet, &queries);
+            } else {
+                alike(&sheet, &queries, &mut vec![0; queries.len()]);
+            }
+        }
+    }
+    tally.report("yardsticks, coincidences", 100_000, [1, 2, 3, 17, 18]);
+}
+
+#[test]
+fn refusals_alike() {
+    let queries = points_bytes(&[[3, 2, 1], [0, 0, 0], [-1, -1, -1]]);
+    for sheet in [vec![octant().bytes(), vec![]], refused_sheets()].concat() {
+        for length in [0, 12, 35, 36] {
+            for room in [0, 11, 12, 35, 36, 50] {
+                alike(&sheet, &queries[..length], &mut vec![0x5a; room]);
+            }
+        }
+    }
+}
