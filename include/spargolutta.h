@@ -1,9 +1,10 @@
 /*
  * spargolutta.h: does a point lie inside, outside or on the boundary of a polygon on the sphere?
  *
- * The polygon comes as a zone sheet (bytes) and the query as three whole numbers. Four calls take the same arguments
- * and each fetches one part of the same answer: its number, its place, its count, its sum. Three more judge a feed, any
- * number of queries to one sheet. All work is in whole numbers, so no answer depends on rounding.
+ * The polygon comes as a zone sheet (bytes) and the query as three whole numbers. Five calls take the same arguments
+ * and each fetches one part of the same answer: its number, its place, its count, its sum, the sides looked at. Three
+ * more judge a feed, any number of queries to one sheet. All work is in whole numbers, so no answer depends on
+ * rounding.
  *
  *     cc client.c $(pkg-config --cflags --libs spargolutta)
  *
@@ -97,6 +98,18 @@ uint32_t spg_judge_count(const uint8_t *sheet, size_t sheet_len, int32_t x, int3
  * alone. A feed's results do not have it.
  */
 int32_t spg_judge_sum(const uint8_t *sheet, size_t sheet_len, int32_t x, int32_t y, int32_t z);
+/*
+ * spg_judge_looked: how many sides were looked at, for the same arguments. The sides are taken in runs of 32 (0 to 31,
+ * 32 to 63 and so on, the last run may be shorter), each with a box: the least and greatest x, y and z of the vertices
+ * at the ends of its sides. A run is skipped exactly when its whole box lies strictly on one side of the plane through
+ * known point and query; so none is if these have one direction. Counted are all sides of the runs not skipped, for
+ * boundary only those up to and including the side named; 0 for refusals. It never exceeds the number of sides.
+ *
+ * It is good for tuning: it says how much of an outline a query touches, and an outline whose neighbouring vertices lie
+ * close together lets more runs be skipped. The rest of the answer does not depend on it: a skipped side is neither
+ * crossed nor holds the query. A feed skips the same runs, but its results do not have this number.
+ */
+uint32_t spg_judge_looked(const uint8_t *sheet, size_t sheet_len, int32_t x, int32_t y, int32_t z);
 
 /*
  * spg_feed_number, spg_feed_place, spg_feed_count: any number of queries, one sheet. The sheet is checked once.

@@ -1,14 +1,15 @@
 /*
  * Calls the library on bytes that stand where a read or write too far ends the program.
  *
- *     client        reads cases from standard input and prints number, place and count for each, a line a case.
- *                   A case is the sheet and the query (12 bytes).
- *     client feed   the same for feeds, with the result buffer as the call leaves it, in hexadecimal. A case is the
- *                   sheet, the queries, and a result buffer's bytes.
+ *     client        reads cases from standard input and prints number, place, count, sum and sides looked at for each,
+ *                   a line a case. A case is the sheet and the query.
+ *     client feed   the same for feeds: number, place, count, and the result buffer as the call leaves it, in
+ *                   hexadecimal. A case is the sheet, the queries, and a result buffer's bytes.
  *     client long   prints number, place and count of a feed whose queries have more than 32 bits of bytes.
- *     client stack  reads one case of a feed and prints how many bytes of stack a thread needs for all six calls.
+ *     client stack  reads one case of a feed and prints how many bytes of stack a thread needs for all eight calls,
+ *                   with the feed's first query for the single ones.
  *
- * In a case bytes of any number have their length before them (4 bytes, big-endian). All that is lent stands once right
+ * In a case all bytes have their length before them (4 bytes, big-endian). All that is lent stands once right
  * before a page that may not be touched and once right behind one, on pages that can only be read while it is judged;
  * but for the result buffer: see feed_placed. Both places have to give the same answer.
  */
@@ -32,10 +33,11 @@ struct bytes {
 
 struct judged {
     struct bytes sheet, queries, results;
-    int32_t query[3];
     uint32_t number;
     size_t place;
     uint32_t count;
+    int32_t sum;
+    uint32_t looked;
 };
 
 static void require(bool holds, const char *what)
@@ -54,9 +56,13 @@ static uint32_t word_at(const uint8_t *bytes)
 static void judge(struct judged *j)
 {
     struct bytes s = j->sheet;
-    j->number = spg_judge_number(s.at, s.length, j->query[0], j->query[1], j->query[2]);
-    j->place = spg_judge_place(s.at, s.length, j->query[0], j->query[1], j->query[2]);
-    j->count = spg_judge_count(s.at, s.length, j->query[0], j->query[1], j->query[2]);
+    const uint8_t *query = j->queries.at;
+    int32_t x = (int32_t)word_at(query), y = (int32_t)word_at(query + 4), z = (int32_t)word_at(query + 8);
+    j->number = spg_judge_number(s.at, s.length, x, y, z);
+    j->place = spg_judge_place(s.at, s.length, x, y, z);
+    j->count = spg_judge_count(s.at, s.length, x, y, z);
+    j->sum = spg_judge_sum(s.at, s.length, x, y, z);
+    j->looked = spg_judge_looked(s.at, s.length, x, y, z);
 }
 
 static void feed(struct judged *j)
@@ -117,12 +123,6 @@ static bool read_feed(struct judged *j)
     return read;
 }
 
-static void set_query(struct judged *j, const uint8_t *query)
-{
-    for (int k = 0; k < 3; k++)
-        j->query[k] = (int32_t)word_at(query + 4 * k);
-}
-
 static void print_answer(const struct judged *j, char after)
 {
     printf("%u %zu %u%c", (unsigned)j->number, j->place, (unsigned)j->count, after);
@@ -130,24 +130,23 @@ static void print_answer(const struct judged *j, char after)
 
 static bool same_answer(const struct judged *j, const struct judged *k)
 {
-    return j->number == k->number && j->place == k->place && j->count == k->count;
+    return j->number == k->number && j->place == k->place && j->count == k->count && j->sum == k->sum
+           && j->looked == k->looked;
 }
 
 static void judge_cases(struct judged *from)
 {
     uint8_t *room = guarded_room();
-    while (read_row(&from->sheet)) {
-        uint8_t query[12];
-        struct judged first = *from, last;
-        require(fread(query, 1, sizeof query, stdin) == sizeof query, "case cut short");
-        set_query(&first, query);
-        last = first;
+    while (read_row(&from->sheet) && read_row(&from->queries)) {
+        struct judged first = *from, last = *from;
+        require(from->queries.length == 12, "not one query");
         first.sheet = lend(room, from->sheet, false);
         judge(&first);
         last.sheet = lend(room, from->sheet, true);
         judge(&last);
         require(same_answer(&first, &last), "the answer depends on where the sheet stands");
-        print_answer(&last, '\n');
+        print_answer(&last, ' ');
+        printf("%d %u\n", (int)last.sum, (unsigned)last.looked);
     }
 }
 
@@ -240,7 +239,6 @@ int main(int argc, char **argv)
         feed_long(&from);
     } else if (strcmp(mode, "stack") == 0) {
         require(read_feed(&from), "no case");
-        set_query(&from, queries);
         printf("%zu\n", stack_needed(&from));
         require(from.number == SPG_DONE, "the feed is refused");
     } else {

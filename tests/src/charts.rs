@@ -2,7 +2,7 @@
 //! have to give them.
 
 use crate::sheet::{octant, Sheet, OCTANT};
-use crate::{library, reference, Answer, Point};
+use crate::{library, reference, Answer, Point, Single};
 
 struct Chart {
     case: &'static str,
@@ -11,10 +11,12 @@ struct Chart {
     query: Point,
     /// Number, place, count.
     answer: (u32, usize, u32),
-    /// Document 02's sum, worked out by hand.
+    /// Document 02's sum and sides looked at, worked out by hand.
     sum: i32,
+    looked: u32,
 }
 
+/// With a sum of 0, and no run skipped.
 fn chart(
     case: &'static str,
     vertices: &[Point],
@@ -22,23 +24,31 @@ fn chart(
     query: Point,
     answer: (u32, usize, u32),
 ) -> Chart {
-    Chart { case, vertices: vertices.to_vec(), known, query, answer, sum: 0 }
+    let looked = match answer {
+        (1 | 2, ..) => vertices.len(),
+        (3, place, _) => place + 1,
+        _ => 0,
+    };
+    Chart { case, vertices: vertices.to_vec(), known, query, answer, sum: 0, looked: looked as u32 }
 }
 
 impl Chart {
     fn sum(self, sum: i32) -> Chart {
         Chart { sum, ..self }
     }
+
+    fn looked(self, looked: u32) -> Chart {
+        Chart { looked, ..self }
+    }
 }
 
 fn all_give(charts: &[Chart]) {
-    for Chart { case, vertices, known, query, answer: (number, place, count), sum } in charts {
-        let expected = Answer { number: *number, place: *place, count: *count };
+    for Chart { case, vertices, known, query, answer: (number, place, count), sum, looked } in charts {
+        let answer = Answer { number: *number, place: *place, count: *count };
+        let expected = Single { answer, sum: *sum, looked: *looked };
         let sheet = Sheet::new(*known, vertices).bytes();
-        assert_eq!(reference::judge(&sheet, *query), expected, "{case}: reference");
-        assert_eq!(library::judge(&sheet, *query), expected, "{case}: library");
-        assert_eq!(reference::sum(&sheet, *query), *sum, "{case}: the reference's sum");
-        assert_eq!(library::sum(&sheet, *query), *sum, "{case}: the library's sum");
+        assert_eq!(reference::single(&sheet, *query), expected, "{case}: reference");
+        assert_eq!(library::single(&sheet, *query), expected, "{case}: library");
     }
     println!("charts: {} compared", charts.len());
 }
@@ -147,6 +157,66 @@ fn corridors() {
         chart("past a corridor inside", &within, [3, 2, 1], [1, 2, 1], (1, 0, 2)),
         chart("where a corridor meets a side", &within, [3, 2, 1], [1, 1, 0], (3, 0, 0)),
         chart("a known point on a corridor's circle", &out, [2, 1, 2], [1, 1, 1], (16, 0, 0)),
+    ]);
+}
+
+/// Document 02, P2, worked out by hand, for one run. From X = (1,0,0) to P = (x,y,z) the plane's normal X×P
+/// is (0,-z,y).
+///
+/// For (-1,0,-1) it is (0,1,0). In the first box y goes from 0 to 1, in the second from -1 to 0: the least
+/// sum is 0, or the greatest. So neither is skipped, and as side 0 ends at the query the answer is 3, place
+/// 0, with one side looked at. If touching were enough to skip, both would answer 1. So it is with K13's
+/// corner without its last vertex: the normal is (0,4,0), y goes from -2 to 0, and sides 0 and 1 are crossed.
+///
+/// In the fourth box y goes from 1 to 3 and z is 5. The normals (0,-1,-1) and (0,1,1) give sums from -8 to -6
+/// and from 6 to 8: skipped. In the last, y goes from 2 to 6 and z from 1 to 5. With (0,1,-1) every vertex
+/// has a sum above 0, but the box's sums begin at -3: not skipped.
+#[test]
+fn boxes() {
+    let above = [[-1, 1, -1], [-1, 0, -1], [-1, 1, 0]];
+    let below = [[-1, -1, -1], [-1, 0, -1], [-1, -1, 0]];
+    let corner = [[-4, -2, 1], [0, 0, 1], [4, -2, 1]];
+    let apart = [[0, 1, 5], [1, 2, 5], [0, 3, 5]];
+    let slanting = [[0, 2, 1], [1, 6, 5], [0, 6, 1]];
+    all_give(&[
+        chart("a plane that touches a box from below", &above, [1, 0, 0], [-1, 0, -1], (3, 0, 0)).looked(1),
+        chart("a plane that touches a box from above", &below, [1, 0, 0], [-1, 0, -1], (3, 0, 0)).looked(1),
+        chart("a plane that touches a corner", &corner, [-2, 0, 1], [2, 0, 1], (1, 0, 2)).looked(3),
+        chart("a box below", &apart, [1, 0, 0], [0, -1, 1], (1, 0, 0)).looked(0),
+        chart("a box above", &apart, [1, 0, 0], [0, 1, -1], (1, 0, 0)).looked(0),
+        chart("no plane", &apart, [1, 0, 0], [2, 0, 0], (1, 0, 0)).looked(3),
+        chart("opposite", &apart, [1, 0, 0], [-2, 0, 0], (18, 0, 0)).looked(0),
+        chart("a plane through a box, past the vertices", &slanting, [1, 0, 0], [0, -1, -1], (1, 0, 0))
+            .looked(3),
+    ]);
+}
+
+/// The same for two runs. Vertex 0 is (2,3,5), then come (1,2,5) and (0,1,5) in turn up to vertex 32. X is
+/// (1,0,0).
+///
+/// With 33 sides the last run is side 32 alone, from (0,1,5) back to (2,3,5). For (-1,5,10) the normal is
+/// (0,-10,5), and y = 1, 2 and 3 give the sums 15, 5 and -5. No run is skipped, and sides 0 (by the second
+/// pattern) and 32 (by the first) are crossed. Without vertex 0 the last box would be skipped.
+///
+/// With (0,-1,5) as vertex 33 the last run is sides 32 and 33. In the first box y goes from 1 to 3 and z is
+/// 5, in the second y begins at -1. For the query at vertex 33 the sums are -5y - z, which is 0 there; for
+/// the last query -y - z; for the others, if there is a plane, they have the sign of -y. So the first run is
+/// skipped, and for the last query both are. At y = 0 side 32 passes through (0,0,5) and side 33 through
+/// (1,0,10).
+#[test]
+fn two_runs() {
+    let vertex = |i: usize| [[2, 3, 5], [1, 2, 5], [0, 1, 5]][if i == 0 { 0 } else { 2 - i % 2 }];
+    let short: Vec<Point> = (0..33).map(vertex).collect();
+    let long = [&short[..], &[[0, -1, 5]]].concat();
+    all_give(&[
+        chart("past vertex 0", &short, [1, 0, 0], [-1, 5, 10], (1, 0, 2)).looked(33),
+        chart("at vertex 33", &long, [1, 0, 0], [0, -1, 5], (3, 32, 0)).looked(1),
+        chart("on side 32", &long, [1, 0, 0], [0, 0, 1], (3, 32, 0)).looked(1),
+        chart("on side 33", &long, [1, 0, 0], [1, 0, 10], (3, 33, 0)).looked(2),
+        chart("past side 33", &long, [1, 0, 0], [1, 0, 20], (2, 0, 1)).sum(1).looked(2),
+        chart("past sides 33 and 32", &long, [1, 0, 0], [-1, 0, 1], (1, 0, 2)).looked(2),
+        chart("the known point's direction", &long, [1, 0, 0], [5, 0, 0], (1, 0, 0)).looked(34),
+        chart("both runs apart", &long, [1, 0, 0], [0, -1, 1], (1, 0, 0)).looked(0),
     ]);
 }
 

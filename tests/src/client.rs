@@ -2,10 +2,11 @@
 
 use crate::compare::{expect, Tally};
 use crate::host::{command, output_of, repository, run_in_pieces, Folder};
+use crate::islands::{islands, queries, Extent};
 use crate::outlines::{sheet_and_queries, Source};
 use crate::random::Random;
 use crate::sheet::{octant, point_bytes, points_bytes, Sheet};
-use crate::{damage, reference, Answer, Point};
+use crate::{damage, reference, Answer, Point, Single};
 use std::fs;
 use std::path::Path;
 use std::process::Command;
@@ -146,25 +147,36 @@ fn sanitized_client(folder: &Folder) -> Command {
     compile(folder, "tests/client.c", &sanitize, &flags())
 }
 
-/// The three numbers that a line begins with.
+/// A line's first three numbers.
 fn answer_of(line: &str) -> Answer {
     let words: Vec<usize> = line.split(' ').take(3).map(|word| word.parse().expect("number")).collect();
     Answer { number: words[0] as u32, place: words[1], count: words[2] as u32 }
 }
 
-/// Damaged sheets at the very ends of pages that can only be read, under AddressSanitizer.
+/// A single call's line: the sum and the sides looked at come last.
+fn single_of(line: &str) -> Single {
+    let words: Vec<&str> = line.split(' ').collect();
+    let (sum, looked) = (words[3].parse().expect("sum"), words[4].parse().expect("sides"));
+    Single { answer: answer_of(line), sum, looked }
+}
+
+/// Damaged sheets and long ones at the very ends of pages that can only be read, under AddressSanitizer.
 #[test]
 fn guard_pages() {
     let folder = Folder::new("pages");
-    let cases = damage::all_cases();
-    let case_bytes = |(sheet, query): &(Vec<u8>, Point)| [row(sheet), point_bytes(*query).to_vec()].concat();
+    let mut cases = damage::all_cases();
+    for sides in [33, 64, 4_096] {
+        let islands = islands(1, sides, Extent::Archipelago);
+        cases.extend(queries(2, &islands, 40).into_iter().map(|query| (islands.sheet(), query)));
+    }
+    let case_bytes = |(sheet, query): &(Vec<u8>, Point)| [row(sheet), row(&point_bytes(*query))].concat();
     let input: Vec<u8> = cases.iter().flat_map(case_bytes).collect();
     let printed = output_of(&mut sanitized_client(&folder), &input);
     assert_eq!(printed.lines().count(), cases.len());
     for (line, (sheet, query)) in printed.lines().zip(&cases) {
-        expect(sheet, *query, answer_of(line));
+        expect(sheet, *query, single_of(line));
     }
-    println!("guard pages: {} damaged sheets", cases.len());
+    println!("guard pages: {} sheets", cases.len());
 }
 
 /// Feeds whose queries and results stand at the very ends of pages: good sheets and damaged ones,
@@ -212,7 +224,7 @@ fn feed_place_is_not_cut() {
     assert_eq!(output_of(client.arg("long"), &[]), "27 4294967316 0\n");
 }
 
-/// The header promises that a call needs less than 64 KiB of stack.
+/// The header promises that a call needs less than 64 KiB of stack: measured inside and on the boundary.
 #[test]
 fn stack() {
     let folder = Folder::new("stack");
@@ -220,10 +232,12 @@ fn stack() {
     client.arg("stack");
     let vertices: Vec<Point> = (0..4096).map(|i| [(i % 2) * 7, 1, i + 1]).collect();
     let sheet = Sheet::new([500, 1, 3], &vertices).bytes();
-    assert_eq!(reference::judge(&sheet, [3, 2, 1]).number, 1);
-    let queries = points_bytes(&[[3, 2, 1]; 100]);
-    let case = [&sheet, &queries, &vec![0; queries.len()]].map(|bytes| row(bytes)).concat();
-    let needed: usize = output_of(&mut client, &case).trim().parse().expect("bytes");
-    println!("stack: {needed} bytes, those of starting a thread among them");
-    assert!(needed < 65_536);
+    for (number, query) in [(1, [3, 2, 1]), (3, vertices[4095])] {
+        assert_eq!(reference::judge(&sheet, query).number, number);
+        let queries = points_bytes(&[query; 100]);
+        let case = [&sheet, &queries, &vec![0; queries.len()]].map(|bytes| row(bytes)).concat();
+        let needed: usize = output_of(&mut client, &case).trim().parse().expect("bytes");
+        println!("stack: {needed} bytes, those of starting a thread among them");
+        assert!(needed < 65_536);
+    }
 }

@@ -1,7 +1,7 @@
 //! One comparison: the library's calls for one query against the reference, and the sheet's bytes
 //! before and after.
 
-use crate::{library, reference, Answer, Point};
+use crate::{library, reference, Point, Single};
 use std::collections::BTreeMap;
 
 /// How often each number occurred.
@@ -9,13 +9,13 @@ use std::collections::BTreeMap;
 pub struct Tally(BTreeMap<u32, u64>);
 
 impl Tally {
-    pub fn compare(&mut self, sheet: &[u8], query: Point) {
+    pub fn compare(&mut self, sheet: &[u8], query: Point) -> Single {
         let lent = sheet.to_vec();
-        let found = library::judge(&lent, query);
-        expect_sum(sheet, query, library::sum(&lent, query));
+        let found = library::single(&lent, query);
         assert!(lent == sheet, "the sheet's bytes changed{}", case(sheet, query));
         expect(sheet, query, found);
-        self.count(found.number);
+        self.count(found.answer.number);
+        found
     }
 
     pub fn count(&mut self, number: u32) {
@@ -35,16 +35,10 @@ impl Tally {
 }
 
 /// Fails, with the sheet, the query and both answers, if the reference says something else.
-pub fn expect(sheet: &[u8], query: Point, found: Answer) {
-    let expected = reference::judge(sheet, query);
+pub fn expect(sheet: &[u8], query: Point, found: Single) {
+    let expected = reference::single(sheet, query);
     let case = || case(sheet, query);
     assert!(found == expected, "{}\n    library   {found:?}\n    reference {expected:?}", case());
-}
-
-/// The same of the sum.
-pub fn expect_sum(sheet: &[u8], query: Point, found: i32) {
-    let expected = reference::sum(sheet, query);
-    assert!(found == expected, "{}\n    sum {found}, not {expected}", case(sheet, query));
 }
 
 fn case(sheet: &[u8], query: Point) -> String {

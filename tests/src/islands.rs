@@ -166,6 +166,8 @@ pub fn islands(seed: u64, sides: usize, extent: Extent) -> Islands {
 pub fn queries(seed: u64, islands: &Islands, count: usize) -> Vec<Point> {
     let random = &mut Random::new(seed);
     let middles = middles(&islands.vertices);
+    // A short outline may have no such side.
+    let on_sides = if middles.is_empty() { &islands.vertices } else { &middles };
     (0..count)
         .map(|_| match random.below(100) {
             0..=49 => {
@@ -178,7 +180,7 @@ pub fn queries(seed: u64, islands: &Islands, count: usize) -> Vec<Point> {
             }
             75..=82 => random.point(LIMIT),
             83..=90 => random.pick(&islands.vertices),
-            91..=98 => random.pick(&middles),
+            91..=98 => random.pick(on_sides),
             _ => islands.known.map(|k| -k),
         })
         .collect()

@@ -24,6 +24,8 @@ mod feed;
 #[cfg(test)]
 mod known_point;
 #[cfg(test)]
+mod looked;
+#[cfg(test)]
 mod multiplications;
 #[cfg(test)]
 mod outlines;
@@ -43,4 +45,12 @@ pub struct Answer {
     pub number: u32,
     pub place: usize,
     pub count: u32,
+}
+
+/// What the single calls give for one query: the answer, and document 02's sum and sides looked at.
+#[derive(Clone, Copy, Debug, PartialEq, Eq)]
+pub struct Single {
+    pub answer: Answer,
+    pub sum: i32,
+    pub looked: u32,
 }

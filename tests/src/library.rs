@@ -1,6 +1,6 @@
 //! The calls of libspargolutta.a, declared as in include/spargolutta.h.
 
-use crate::{Answer, Point};
+use crate::{Answer, Point, Single};
 
 extern "C" {
     fn spg_judge_number(sheet: *const u8, sheet_len: usize, x: i32, y: i32, z: i32) -> u32;
@@ -63,9 +63,19 @@ pub fn judge(sheet: &[u8], query: Point) -> Answer {
 
 extern "C" {
     fn spg_judge_sum(sheet: *const u8, sheet_len: usize, x: i32, y: i32, z: i32) -> i32;
+    fn spg_judge_looked(sheet: *const u8, sheet_len: usize, x: i32, y: i32, z: i32) -> u32;
 }
 
 /// Document 02's P6: the sum has a call of its own.
 pub fn sum(sheet: &[u8], [x, y, z]: Point) -> i32 {
     unsafe { spg_judge_sum(sheet.as_ptr(), sheet.len(), x, y, z) }
+}
+
+/// Document 02's P2: and so have the sides looked at.
+pub fn looked(sheet: &[u8], [x, y, z]: Point) -> u32 {
+    unsafe { spg_judge_looked(sheet.as_ptr(), sheet.len(), x, y, z) }
+}
+
+pub fn single(sheet: &[u8], query: Point) -> Single {
+    Single { answer: judge(sheet, query), sum: sum(sheet, query), looked: looked(sheet, query) }
 }

@@ -123,7 +123,7 @@ fn known_point(random: &mut Random, source: Source, vertices: &[Point]) -> Point
 }
 
 /// A query that is likely to meet something: see the comments.
-fn query(random: &mut Random, source: Source, known: Point, vertices: &[Point]) -> Point {
+pub fn query(random: &mut Random, source: Source, known: Point, vertices: &[Point]) -> Point {
     let i = random.below(vertices.len());
     let (a, b) = (vertices[i], vertices[(i + 1) % vertices.len()]);
     let (s, t) = (random.between(1, 3), random.between(1, 3));

@@ -1,7 +1,11 @@
 //! Documents 01 and 02 in plain Rust, from their text alone: 128-bit integers, and the shortest code
-//! that says what the documents say. The parts stand in their order, under their words.
+//! that says what the documents say. The parts stand in their order, under their words; the calls that
+//! document 02 adds stand in `requests`.
+
+mod requests;
 
 use crate::{Answer, Point};
+pub use requests::{feed, single};
 
 // Points, sides, outlines
 
@@ -192,21 +196,11 @@ fn read(sheet: &[u8]) -> Result<(Vector, Vec<Vector>), Answer> {
     }
 }
 
-/// What the importer's three calls fetch.
+/// Number, place and count.
 pub fn judge(sheet: &[u8], query: Point) -> Answer {
     match read(sheet) {
         Ok((known, vertices)) => verdict(&vertices, known, vector(query)),
         Err(refusal) => refusal,
-    }
-}
-
-/// P6: the sum over all sides, 0 for boundary and refusals.
-pub fn sum(sheet: &[u8], query: Point) -> i32 {
-    match (judge(sheet, query).number, read(sheet)) {
-        (1 | 2, Ok((known, vertices))) => {
-            sides(&vertices).iter().map(|&side| crossing(known, vector(query), side)).sum()
-        }
-        _ => 0,
     }
 }
 
@@ -224,34 +218,6 @@ pub fn program(sheet: Option<&[u8]>, input: &[u8]) -> String {
                 text += &line(answer(20, whole, 0));
             }
             text
-        }
-    }
-}
-
-// P1. A whole feed in one call
-
-/// The feed's own answer, and the result buffer as the call leaves it.
-pub fn feed(sheet: &[u8], queries: &[u8], buffer: &[u8]) -> (Answer, Vec<u8>) {
-    let unchanged = |refusal| (refusal, buffer.to_vec());
-    if queries.len() % 12 != 0 {
-        return unchanged(answer(26, 0, 0));
-    }
-    let needed = 12 * (queries.len() / 12);
-    if buffer.len() < needed {
-        return unchanged(answer(27, needed, 0));
-    }
-    match read(sheet) {
-        Err(refusal) => unchanged(refusal),
-        Ok((known, vertices)) => {
-            let mut after = vec![];
-            for query in points(queries) {
-                let Answer { number, place, count } = verdict(&vertices, known, query);
-                for word in [number, u32::try_from(place).expect("a side's number"), count] {
-                    after.extend(word.to_be_bytes());
-                }
-            }
-            after.extend(&buffer[needed..]);
-            (answer(0, 0, 0), after)
         }
     }
 }

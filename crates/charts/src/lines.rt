@@ -1,10 +1,10 @@
 // One line of output for each chart. Here, in order: print_numbers, print_answer, print_same, judge, judge_list,
 // judge_octant, ask_octant, octant_from. Assumes nothing of its own.
 use crate::given;
+use judging::judge;
 use libc::STDOUT_FILENO;
 use polygon::answer;
 use polygon::answer::Answer;
-use polygon::judge;
 use sphere::point::Point;
 
 pub(crate) fn print_numbers(label: &[u8], first: u64, second: u64, third: u64) {

@@ -1,7 +1,7 @@
 -- What a machine's comparison with 0 says of a number's sign, and what two comparisons say of its size.
 -- Proved, in order: negative-test, positive-test, at-least-test, at-most-test, zero-bits, zero-test, zero-yes, zero-no,
--- size-test, result-same. A signed local is held as bits: an order reads them, and equality compares them. Each law
--- holds at every width, for a number that fits it. Assumes nothing.
+-- size-test, result-same, less-test (two numbers). A signed local is held as bits: an order reads them, and equality
+-- compares them. Each law holds at every width, for a number that fits it. Assumes nothing.
 use mathlib.Core.Path.{_≡_, refl, sym, ap, _∙_}
 use Prim.Native.Nat.{ℕ, zero, suc, _^_, _≤_, _<_}
 use mathlib.Core.Bool.{Bool, true, false, _||_, or-false}
@@ -64,3 +64,8 @@ size-test n (negsuc k) = or-false (ltb n k) ∙ same-test n k (suc n) (suc k) (�
 -- What a local holds after a call that gave z, of which the callee says that it is v.
 pub result-same : (w : Width) (z : ℤ) {v : ℤ} → mag z < 2 ^ hbits w → z ≡ v → toZ w (ofZ w z) ≡ v
 result-same w z ok e = toZ-ofZ w z (record { sfits = ok }) ∙ e
+
+-- What a comparison of two locals says of their numbers.
+pub less-test : (w : Width) (x y : ℤ) → SFits w x → SFits w y → {t : Bool} →
+    ltZ (toZ w (ofZ w x)) (toZ w (ofZ w y)) ≡ t → ltZ x y ≡ t
+less-test w x y f g e = rw (toZ-ofZ w x f, toZ-ofZ w y g) at e

@@ -1,12 +1,13 @@
--- Document 01, 'Charts to test against': the cases K1 to K14, as one table, with document 02's sums (P6), and a row
--- whose sum is 2. Defined, in order: Chart, octant, doubled, touched, cornered, wound, charts, outward, longer,
--- thrice, inward, corridors (P3), isRight, areRight. Claims.ChartsHold says that the table is right. The sums, worked
--- out by hand from document 01's patterns. The octant's edges have the octant on their positive side: s3 > 0 from a
--- known point in it, so only the second pattern can hold, and K5 (edge 0), K6 (edge 1), K7 (edge 1) and K11 (edge 2)
--- have sum -1: s1, s2, s3, s4 are -2, 2, 1, -1 in K5, -2, 0, 1, -1 in K6, -1, 2, 1, -1 in K7 and -1, 3, 2, -1 in K11.
--- K12 goes in from outside, by edge 0: 3, -4, -1, 1, the first pattern, so its sum is 1, the other sign. K13 crosses
--- edge 0 by the second (-8, 0, 4, -4) and edge 1 by the first (0, -8, -4, 4): the sum is 0, and the count 2. K14
--- crosses edge 2 by the second (-1, 1, 1, -1): -1. Assumes nothing.
+-- Document 01, 'Charts to test against': the cases K1 to K14, as one table, with document 02's sums (P6), a row whose
+-- sum is 2, and a query both opposite and beyond the grid (17 comes before 18). Defined, in order: Chart, octant,
+-- doubled, touched, cornered, wound, charts, outward, longer, thrice, inward, corridors (P3), isRight, areRight.
+-- Claims.ChartsHold says that the table is right. The sums, worked out by hand from document 01's patterns. The
+-- octant's edges have the octant on their positive side: s3 > 0 from a known point in it, so only the second pattern
+-- can hold, and K5 (edge 0), K6 (edge 1), K7 (edge 1) and K11 (edge 2) have sum -1: s1, s2, s3, s4 are -2, 2, 1, -1 in
+-- K5, -2, 0, 1, -1 in K6, -1, 2, 1, -1 in K7 and -1, 3, 2, -1 in K11. K12 goes in from outside, by edge 0: 3, -4, -1,
+-- 1, the first pattern, so its sum is 1, the other sign. K13 crosses edge 0 by the second (-8, 0, 4, -4) and edge 1 by
+-- the first (0, -8, -4, 4): the sum is 0, and the count 2. K14 crosses edge 2 by the second (-1, 1, 1, -1): -1.
+-- Assumes nothing.
 use mathlib.Core.Bool.{Bool, true, _&&_}
 use mathlib.Core.List.{List, [], _∷_}
 use Prim.Native.Nat.{ℕ}
@@ -74,6 +75,7 @@ charts =
     ∷ chart touched (at (- 2) (+ 0) (+ 1)) (at (+ 2) (+ 0) (+ 1)) 1 0 2 (+ 0)
     ∷ chart cornered (at (+ 1) (+ 1) (- 1)) (at (+ 0) (+ 0) (+ 1)) 2 0 1 (- 1)
     ∷ chart wound (at (+ 1) (+ 1) (+ 3)) (at (+ 1) (+ 1) (+ 0)) 1 0 2 (+ 2)
+    ∷ chart octant centre (at (- 1048577) (- 1048577) (- 1048577)) 17 0 0 (+ 0)
     ∷ []
 
 -- Document 02, P3: the octant with a corridor from (1,0,0) out to (2,-1,-2) and back, edges 0 and 1; the same with a

@@ -1,8 +1,8 @@
 // The polygon: its vertex list, its checks, and what may be said of a query.
-// Here, in order: answers, the vertex list, the checks of document 01's lines 10 to 18, and the judging call. Each
-// function is proved equal to its definition in specs/. Assumes nothing.
+// Here: answers, the vertex list, which edges are border, the checks of document 01's lines 10 to 18. Each function is
+// proved equal to its definition in specs/. The theorems about the verdict are here too; the judging call is in crate
+// judging. Assumes nothing.
 pub mod answer;
 pub mod border;
 pub mod checks;
-pub mod judge;
 pub mod vertices;

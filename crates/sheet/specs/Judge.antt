@@ -1,6 +1,6 @@
 -- Judging by a sheet's bytes: one query, and a feed of them (document 02, P1). A bad sheet gives that sheet's refusal.
--- Defined, in order: sheetAnswerOf; sheetFeedCheck (26 and 27 come before 20), sheetFeedOf, sheetFedTo.
--- Document 01, 'The zone sheet', on the importer's calls. Assumes nothing.
+-- Defined, in order: sheetAnswerOf, sheetLookedOf, sheetJudgementOf; sheetFeedCheck (26 and 27 come before 20),
+-- sheetFeedOf, sheetFedTo. Document 01, 'The zone sheet', on the importer's calls. Assumes nothing.
 use mathlib.Core.List.{List}
 use Prim.Native.Nat.{ℕ}
 use lib.ListN.{length}
@@ -12,12 +12,21 @@ use Rattle.polygon.specs.declared.answer.Check.{Check}
 use Rattle.polygon.specs.Answer.{answerAfter}
 use Rattle.polygon.specs.Checks.{_then_}
 use Rattle.polygon.specs.Verdict.{answerOf}
+use Rattle.judging.specs.declared.judge.Judgement.{Judgement}
+use Rattle.judging.specs.Walk.{lookedAfter, lookedOf}
 use Rattle.batch.specs.Buffer.{bufferAfter}
 use Rattle.batch.specs.Feed.{sizeCheck, feedBytes}
 use Rattle.sheet.specs.Sheet.{knownOf, verticesOf, sheetCheck}
 
 unfoldable pub sheetAnswerOf : List ℕ → Point → Answer
 sheetAnswerOf b P = answerAfter (sheetCheck b) (answerOf coarse (verticesOf b) (knownOf b) P)
+
+-- How many edges were looked at for it (document 02, P2), and both together.
+unfoldable pub sheetLookedOf : List ℕ → Point → ℕ
+sheetLookedOf b P = lookedAfter (sheetCheck b) (lookedOf coarse (verticesOf b) (knownOf b) P)
+
+unfoldable pub sheetJudgementOf : List ℕ → Point → Judgement
+sheetJudgementOf b P = record { answer = sheetAnswerOf b P; looked = sheetLookedOf b P }
 
 -- All that is checked once for a feed, with `room` bytes for its results.
 unfoldable pub sheetFeedCheck : List ℕ → List ℕ → ℕ → Check

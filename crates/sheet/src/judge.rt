@@ -1,21 +1,37 @@
-// Judging by a sheet's bytes. Any bytes and any query; nothing is written. Assumes nothing.
+// Judging by a sheet's bytes. Any bytes and any query; nothing is written.
+// Here, in order: judgement (the answer, and the number of edges looked at), judge, looked. Assumes nothing.
 ghost use mathlib.Core.Path.{_≡_};
-ghost use Rattle.sheet.specs.Judge.{sheetAnswerOf};
+ghost use Rattle.sheet.specs.Judge.{sheetAnswerOf, sheetLookedOf, sheetJudgementOf};
 use crate::open;
+use judging::judge::Judgement;
+use judging::judge::judge_accepted;
+use judging::judge::refused;
 use polygon::answer::Answer;
 use polygon::answer::Check;
-use polygon::judge::judge_query;
 use sphere::point::Point;
 
-pub fn judge(b: &[u8], query: Point) -> Answer
-    ensures { λ r. ⌜ r ≡ sheetAnswerOf (now (b .entry)) query ⌝ }
+fn judgement(b: &[u8], query: Point) -> Judgement
+    ensures { λ r. ⌜ r ≡ sheetJudgementOf (now (b .entry)) query ⌝ }
 {
     let mut scratch = [0i32; 12288];
     match open::open(b, &mut scratch) {
         Check::Passed => {
             let size = open::vertex_count(b) * 3;
-            judge_query(&scratch[..size], open::known_point(b), query)
+            judge_accepted(&scratch[..size], open::known_point(b), query)
         }
-        Check::Failed(number, place) => Answer::Refused(number, place),
+        Check::Failed(number, place) => refused(number, place),
     }
+}
+
+pub fn judge(b: &[u8], query: Point) -> Answer
+    ensures { λ r. ⌜ r ≡ sheetAnswerOf (now (b .entry)) query ⌝ }
+{
+    judgement(b, query).answer
+}
+
+// Document 02, P2: how many edges `judge` looks at.
+pub fn looked(b: &[u8], query: Point) -> u32
+    ensures { λ r. ⌜ r ≡ sheetLookedOf (now (b .entry)) query ⌝ }
+{
+    judgement(b, query).looked
 }

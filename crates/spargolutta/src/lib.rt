@@ -4,7 +4,7 @@
 ghost use mathlib.Core.Path.{_≡_};
 ghost use lib.ListN.{length};
 ghost use Rattle.polygon.specs.Answer.{numberOf, placeOf, countOf, sumOf};
-ghost use Rattle.sheet.specs.Judge.{sheetAnswerOf, sheetFeedOf, sheetFedTo};
+ghost use Rattle.sheet.specs.Judge.{sheetAnswerOf, sheetLookedOf, sheetFeedOf, sheetFedTo};
 ghost use Rattle.spargolutta.specs.Query.{queryOf};
 use polygon::answer::Answer;
 use polygon::answer::count;
@@ -15,20 +15,25 @@ use polygon::vertices::wide;
 use sheet::feed::feed;
 use sheet::feed::feed_answer;
 use sheet::judge::judge;
+use sheet::judge::looked;
 use sphere::point::Point;
+
+// C's three numbers as a point.
+fn query(x: i32, y: i32, z: i32) -> Point
+    ensures { λ r. ⌜ r ≡ queryOf x y z ⌝ }
+{
+    Point {
+        x: wide(x),
+        y: wide(y),
+        z: wide(z),
+    }
+}
 
 // The whole answer. Each exported function hands out one number of it.
 fn answer(sheet: &[u8], x: i32, y: i32, z: i32) -> Answer
     ensures { λ r. ⌜ r ≡ sheetAnswerOf (now (sheet .entry)) (queryOf x y z) ⌝ }
 {
-    judge(
-        sheet,
-        Point {
-            x: wide(x),
-            y: wide(y),
-            z: wide(z),
-        },
-    )
+    judge(sheet, query(x, y, z))
 }
 
 #[no_mangle]
@@ -58,6 +63,14 @@ pub extern "C" fn spg_judge_sum(sheet: &[u8], x: i32, y: i32, z: i32) -> i32
     ensures { λ r. ⌜ r ≡ sumOf (sheetAnswerOf (now (sheet .entry)) (queryOf x y z)) ⌝ }
 {
     sum(answer(sheet, x, y, z))
+}
+
+// Document 02, P2: how many sides were looked at for the answer.
+#[no_mangle]
+pub extern "C" fn spg_judge_looked(sheet: &[u8], x: i32, y: i32, z: i32) -> u32
+    ensures { λ r. ⌜ r ≡ sheetLookedOf (now (sheet .entry)) (queryOf x y z) ⌝ }
+{
+    looked(sheet, query(x, y, z))
 }
 
 // A feed: the results are written if and only if the number is 0.

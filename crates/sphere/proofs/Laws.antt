@@ -5,3 +5,4 @@ pub mod Aligned
 pub mod Crossing
 pub mod OnEdge
 pub mod Joined
+pub mod Beside

@@ -1,11 +1,11 @@
 // One edge crossed by the arc from the reference point to the query, and which way (document 02, P6).
-// Here, in order: changes_side, crossing_by, crossing_from, crossing. Document 01, 'When the arc crosses a side'. A
-// walk over a polygon has some of the four orientations at hand, and uses crossing_from. Assumes nothing.
+// Here, in order: changes_side, is_beside, crossing_by, crossing_from, crossing. Document 01, 'When the arc crosses a
+// side'. A walk over a polygon has some of the four orientations at hand, and uses crossing_from. Assumes nothing.
 ghost use mathlib.Core.Path.{_≡_};
 ghost use Rattle.integers.specs.Sign.{signOf, unitOf};
 ghost use Rattle.sphere.specs.Point.{coarse, Within};
 ghost use Rattle.sphere.specs.Orientation.{orientationOf};
-ghost use Rattle.sphere.specs.Crossing.{crossingBy, crossingOf, changesSide};
+ghost use Rattle.sphere.specs.Crossing.{crossingBy, crossingOf, changesSide, isBeside};
 use crate::orientation::orientation;
 use crate::point::Point;
 
@@ -17,6 +17,19 @@ pub fn changes_side(s1: i64, s2: i64) -> bool
         return s2 >= 0;
     }
     s2 < 0
+}
+
+// The edge's ends lie strictly on one side of the arc's plane. Then it is not crossed, and the query is not on it.
+pub fn is_beside(s1: i64, s2: i64) -> bool
+    ensures { λ r. ⌜ r ≡ isBeside (signOf s1) (signOf s2) ⌝ }
+{
+    if s1 > 0 {
+        return s2 > 0;
+    }
+    if s1 < 0 {
+        return s2 < 0;
+    }
+    false
 }
 
 // By the four orientations: 1 for document 01's first pattern, -1 for its second, and 0 otherwise.

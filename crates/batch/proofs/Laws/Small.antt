@@ -1,10 +1,10 @@
 -- The answer to a query of an accepted polygon has a number, a place and a count of 32 bits: no result loses any.
--- Defined: Small. Proved, in order: count-bound, after-small (17 and 18), parity-small, verdict-small, answer-small.
+-- Defined: Small. Proved, in order: after-small (17 and 18), parity-small, verdict-small, answer-small.
 -- Assumes nothing.
 use mathlib.Core.Path.{_≡_, refl}
 use mathlib.Core.Bool.{Bool, true, false, cond}
 use mathlib.Core.List.{List}
-use Prim.Native.Nat.{ℕ, zero, suc, _%_, _≤_, _<_}
+use Prim.Native.Nat.{ℕ, _%_, _≤_, _<_}
 use native.Mathlib.Omega.{arith}
 use lib.Dec.{eqb}
 use lib.IntN.{ℤ}
@@ -17,28 +17,18 @@ use Rattle.polygon.specs.declared.answer.Answer.{Answer}
 use Rattle.polygon.specs.declared.answer.Answer.the-variants.{Inside, Outside}
 use Rattle.polygon.specs.declared.answer.Check.the-variants.{Passed}
 use Rattle.polygon.specs.Answer.{numberOf, placeOf, countOf, answerAfter}
-use Rattle.polygon.specs.Search.{countFrom}
 use Rattle.polygon.specs.Vertices.{vertexCount}
 use Rattle.polygon.specs.Checks.{_then_, failsIf, acceptCheck, queryCheck, farCheck, judgeCheck}
 use Rattle.polygon.specs.Verdict.{isCoast, isCrossed, boundaryOf, crossingsOf, windingOf, verdictBy, verdictOf}
 use Rattle.polygon.specs.Verdict.{answerOf}
 use Rattle.polygon.proofs.Laws.First.{first-found}
+use Rattle.polygon.proofs.Laws.Blocks.{count-bound}
 use Rattle.polygon.proofs.Laws.Checks.{accept-passed}
 
 pub record Small (a : Answer) : Type 0 where
   pub number : numberOf a < 4294967296
   pub place : placeOf a < 4294967296
   pub count : countOf a < 4294967296
-
--- A count is at most the number of tests.
-count-bound : (test : ℕ → Bool) (i k : ℕ) → countFrom test i k ≤ k
-unfolding countFrom
-count-bound test i zero = omega arith
-count-bound test i (suc k) = go (test i) (countFrom test (suc i) k) (count-bound test (suc i) k)
-  where
-    go : (t : Bool) (n : ℕ) → n ≤ k → cond t (suc n) n ≤ suc k
-    go true n h = omega arith
-    go false n h = omega arith
 
 after-small : (off far : Bool) {a : Answer} → Small a → Small (answerAfter (failsIf 17 off then failsIf 18 far) a)
 after-small true far s = record { number = omega arith; place = omega arith; count = omega arith }

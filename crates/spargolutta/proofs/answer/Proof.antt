@@ -1,40 +1,23 @@
--- `answer` meets its contract: each of C's three numbers is widened, and stays the same. Assumes nothing.
-use mathlib.Core.Path.{_∙_}
+-- `answer` meets its contract. Assumes nothing.
+use mathlib.Core.Path.{_∙_, ap}
 use borrow.Author.Needs.{needs}
-use mir.Syntax.{w64}
-use Rattle.integers.proofs.Compare.{result-same}
 use Rattle.sheet.specs.Judge.{sheetAnswerOf}
-use Rattle.spargolutta.specs.Query.{queryOf}
 use Rattle.spargolutta.proofs.Handed.{handed}
 use Rattle.spargolutta.proofs.answer.Statement.{statement}
 use Rattle.spargolutta.proofs.answer.Tie as tie
 
-wide-requires : tie.Need-wide-requires
-wide-requires c κs = search needs
-
-wide-requires-2 : tie.Need-wide-requires-2
-wide-requires-2 c κs = search needs
-
-wide-requires-3 : tie.Need-wide-requires-3
-wide-requires-3 c κs = search needs
+query-requires : tie.Need-query-requires
+query-requires c κs = search needs
 
 judge-requires : tie.Need-judge-requires
 judge-requires c κs = search needs
 
 returns : tie.Need-returns
 returns c =
-    let x = c .before .before .before .wide in
-    let y = c .before .before .wide2 in
-    let z = c .before .wide3 in
-    let start = c .before .before .before .before .before in
+    let start = c .before .before .before in
     let f = start .fits in
-    let b = start .args .sheet .now in
     c .judge .ensures
-    ∙ (λ i. sheetAnswerOf b (queryOf
-    (result-same w64 (x .result) (x .ok) (x .ensures) i)
-    (result-same w64 (y .result) (y .ok) (y .ensures) i)
-    (result-same w64 (z .result) (z .ok) (z .ensures) i)))
-    ∙ handed b _ _ _ (f .x) (f .y) (f .z)
+    ∙ ap (sheetAnswerOf (start .args .sheet .now)) (c .before .query .ensures ∙ handed _ _ _ (f .x) (f .y) (f .z))
 
 pub answer-spec : {M : Type 1} → statement M
-answer-spec = tie.close (tie.spec wide-requires wide-requires-2 wide-requires-3 judge-requires returns)
+answer-spec = tie.close (tie.spec query-requires judge-requires returns)

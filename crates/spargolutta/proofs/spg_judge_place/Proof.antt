@@ -2,7 +2,7 @@
 use mathlib.Core.Path.{_∙_, ap}
 use borrow.Author.Needs.{needs}
 use Rattle.polygon.specs.Answer.{placeOf}
-use Rattle.spargolutta.proofs.Handed.{handed}
+use Rattle.spargolutta.proofs.Handed.{handed-answer}
 use Rattle.spargolutta.proofs.spg_judge_place.Statement.{statement}
 use Rattle.spargolutta.proofs.spg_judge_place.Tie as tie
 
@@ -17,7 +17,7 @@ returns c =
     let start = c .before .before .before in
     let f = start .fits in
     c .place .ensures
-    ∙ ap placeOf (c .before .answer .ensures ∙ handed (start .args .sheet .now) _ _ _ (f .x) (f .y) (f .z))
+    ∙ ap placeOf (c .before .answer .ensures ∙ handed-answer (start .args .sheet .now) _ _ _ (f .x) (f .y) (f .z))
 
 pub spg-judge-place-spec : {M : Type 1} → statement M
 spg-judge-place-spec = tie.close (tie.spec answer-requires place-requires returns)

@@ -4,7 +4,7 @@ use borrow.Author.Needs.{needs}
 use mir.Syntax.{w32}
 use Rattle.integers.proofs.Compare.{result-same}
 use Rattle.polygon.specs.Answer.{sumOf}
-use Rattle.spargolutta.proofs.Handed.{handed}
+use Rattle.spargolutta.proofs.Handed.{handed-answer}
 use Rattle.spargolutta.proofs.spg_judge_sum.Statement.{statement}
 use Rattle.spargolutta.proofs.spg_judge_sum.Tie as tie
 
@@ -20,7 +20,7 @@ returns c =
     let f = start .fits in
     let r = c .sum in
     result-same w32 (r .result) (r .ok) (r .ensures)
-    ∙ ap sumOf (c .before .answer .ensures ∙ handed (start .args .sheet .now) _ _ _ (f .x) (f .y) (f .z))
+    ∙ ap sumOf (c .before .answer .ensures ∙ handed-answer (start .args .sheet .now) _ _ _ (f .x) (f .y) (f .z))
 
 pub spg-judge-sum-spec : {M : Type 1} → statement M
 spg-judge-sum-spec = tie.close (tie.spec answer-requires sum-requires returns)

@@ -4,18 +4,21 @@ use native.Mathlib.Omega.{arith}
 use borrow.Author.Needs.{needs}
 use Rattle.sphere.specs.Point.{coarse}
 use Rattle.polygon.specs.Verdict.{answerOf}
+use Rattle.judging.specs.Walk.{judgementOf}
 use Rattle.batch.specs.Feed.{queryAt}
 use Rattle.batch.proofs.Laws.Small.{answer-small}
 use Rattle.batch.proofs.feed.judge_one.Statement.{statement}
 use Rattle.batch.proofs.feed.judge_one.Tie as tie
 
 -- The single call's answer.
-answered : (c : tie.After-judge-query) →
+answered : (c : tie.After-judge-boxed) →
     let s = c .before .before .before .before .args in
-    c .judge-query .result ≡ answerOf coarse (s .vertices .now) (s .known) (queryAt (s .queries .now) (s .i))
+    c .judge-boxed .result .answer ≡ answerOf coarse (s .vertices .now) (s .known) (queryAt (s .queries .now) (s .i))
+unfolding judgementOf
 answered c =
     let s = c .before .before .before .before .args in
-    c .judge-query .ensures ∙ ap (answerOf coarse (s .vertices .now) (s .known)) (c .before .point-at .ensures)
+    ap (λ j. j .answer) (c .judge-boxed .ensures)
+    ∙ ap (answerOf coarse (s .vertices .now) (s .known)) (c .before .point-at .ensures)
 
 mul-at : tie.Need-mul-at
 mul-at c = search needs
@@ -23,8 +26,8 @@ mul-at c = search needs
 point-at-requires : tie.Need-point-at-requires
 point-at-requires c κs = search needs
 
-judge-query-requires : tie.Need-judge-query-requires
-judge-query-requires c κs = search needs
+judge-boxed-requires : tie.Need-judge-boxed-requires
+judge-boxed-requires c κs = search needs
 
 store-result-requires : tie.Need-store-result-requires
 store-result-requires c κs =
@@ -44,7 +47,7 @@ judge-one-spec =
     (tie.spec
     mul-at
     point-at-requires
-    judge-query-requires
+    judge-boxed-requires
     store-result-requires
     same-length
     returns)

@@ -1,105 +1,16 @@
--- `judge::judge` meets its contract: the polygon that the checks decoded is the sheet's, and it is accepted.
--- Assumes nothing.
-use mathlib.Core.Path.{_≡_, sym, ap₂, _∙_}
-use mathlib.Core.List.{List}
-use Prim.Native.Nat.{_*_, _≤_}
+-- `judge::judge` meets its contract. Assumes nothing.
+use mathlib.Core.Path.{ap}
 use borrow.Author.Needs.{needs}
-use lib.IntN.{ℤ, pos}
-use lib.ListN.{length, take, replicate}
-use lib.Seq.{length-take-le}
-use Rattle.sphere.specs.Point.{coarse}
-use Rattle.polygon.specs.declared.answer.Check.the-variants.{Passed}
-use Rattle.polygon.specs.Checks.{acceptCheck}
-use Rattle.polygon.specs.Verdict.{answerOf}
-use Rattle.sheet.specs.Fields.{sheetFields}
-use Rattle.sheet.specs.Sheet.{verticesOf, sheetCheck}
-use Rattle.sheet.specs.Judge.{sheetAnswerOf}
-use Rattle.sheet.proofs.Laws.Reads.{sheet-passed, sheet-sound, opened-row, opened-room}
+use Rattle.sheet.specs.Judge.{sheetJudgementOf}
 use Rattle.sheet.proofs.judge.judge.Statement.{statement}
 use Rattle.sheet.proofs.judge.judge.Tie as tie
 
--- The scratch space before the checks.
-abbrev zeros : List ℤ
-zeros = replicate 12288 (pos 0)
-
-passed : (c : tie.After-enum-told) → sheetCheck (c .before .before .before .before .before .args .b .now) ≡ Passed
-passed c = sym (c .before .before .«open» .ensures .0) ∙ c .enum-told .given .1
-
-sound : (c : tie.After-enum-told) → sheetFields (c .before .before .before .before .before .args .b .now) ≡ Passed
-sound c = sheet-sound (c .before .before .before .before .before .args .b .now) (passed c)
-
--- The part of the scratch space that is judged, and that it is there.
-row :
-    (c : tie.After-vertex-count) →
-    take (c .vertex-count .result * 3) (c .before .before .before .«open» .last .1 .0)
-    ≡ verticesOf (c .before .before .before .before .before .before .args .b .now)
-row c =
-    opened-row _ zeros (passed (c .before)) (c .before .before .before .«open» .ensures .1)
-    (c .vertex-count .ensures .0)
-
-room :
-    (c : tie.After-vertex-count) →
-    c .vertex-count .result * 3 ≤ length (c .before .before .before .«open» .last .1 .0)
-room c =
-    opened-room _ zeros (passed (c .before)) (c .before .before .before .«open» .ensures .1)
-    (c .vertex-count .ensures .0)
-
-open-requires : tie.Need-open-requires
-open-requires c κs = search needs
-
-enum-told : tie.Need-enum-told
-enum-told c = search needs
-
-vertex-count-requires : tie.Need-vertex-count-requires
-vertex-count-requires c κs = sound c
-
-mul-size : tie.Need-mul-size
-mul-size c = search needs
-
-array-share-prefix-scratch : tie.Need-array-share-prefix-scratch
-array-share-prefix-scratch c = room c
-
-slice-aggregate-judge-query : tie.Need-slice-aggregate-judge-query
-slice-aggregate-judge-query c = sym (length-take-le _ _ (room (c .before)))
-
-known-point-requires : tie.Need-known-point-requires
-known-point-requires c κs = sound (c .before .before)
-
-judge-query-requires : tie.Need-judge-query-requires
-judge-query-requires c κs =
-    let v = c .before .before in
-    let b = v .before .before .before .before .before .before .args .b .now in
-    ap₂ (acceptCheck coarse) (row v) (c .known-point .ensures) ∙ sheet-passed b (passed (v .before)) .1
-
-enum-known-number : tie.Need-enum-known-number
-enum-known-number c = search needs
+judgement-requires : tie.Need-judgement-requires
+judgement-requires c κs = search needs
 
 returns : tie.Need-returns
-unfolding sheetAnswerOf
-returns c =
-    let v = c .before .before .before in
-    let i = v .before .before .before .before .before .before .args in
-    rw (passed (v .before))
-    (c .judge-query .ensures ∙ (λ k. answerOf coarse (row v k) (c .before .known-point .ensures k) (i .query)))
-
-returns-2 : tie.Need-returns-2
-unfolding sheetAnswerOf
-returns-2 c =
-    let o = c .before .before .before in
-    rw (sym (o .«open» .ensures .0) ∙ c .before .number .given .1)
+unfolding sheetJudgementOf
+returns c = ap (λ j. j .answer) (c .judgement .ensures)
 
 pub judge-spec : {M : Type 1} → statement M
-judge-spec =
-    tie.close
-    (tie.spec
-    open-requires
-    enum-told
-    vertex-count-requires
-    mul-size
-    array-share-prefix-scratch
-    slice-aggregate-judge-query
-    known-point-requires
-    judge-query-requires
-    enum-known-number
-    returns
-    returns-2)
+judge-spec = tie.close (tie.spec judgement-requires returns)

@@ -1,0 +1,32 @@
+-- One edge. Proved, in order: beside-met (ends strictly on one side), way-told (which way it is crossed, by the four
+-- orientations). Assumes nothing.
+use mathlib.Core.Path.{_≡_}
+use mathlib.Core.Bool.{true}
+use mathlib.Core.List.{List}
+use Prim.Native.Nat.{ℕ, _<_}
+use lib.IntN.{ℤ, pos}
+use Rattle.integers.specs.Sign.{signOf, unitOf}
+use Rattle.sphere.specs.declared.point.Point.{Point}
+use Rattle.sphere.specs.Orientation.{orientationOf}
+use Rattle.sphere.specs.Crossing.{crossingBy, crossingOf, isBeside}
+use Rattle.sphere.proofs.Laws.Beside.{beside-not-crossed, beside-not-on}
+use Rattle.polygon.specs.Vertices.{vertexCount, startOf, endOf}
+use Rattle.polygon.specs.Verdict.{isCoast, wayOf}
+use Rattle.polygon.proofs.Laws.Checks.{OffCircles}
+use Rattle.judging.specs.declared.walk.Met.the-variants.{Way}
+use Rattle.judging.specs.Walk.{metBy}
+
+pub beside-met : (vs : List ℤ) (X P : Point) (i : ℕ) → OffCircles vs X → i < vertexCount vs →
+    isBeside (signOf (orientationOf X P (startOf vs i))) (signOf (orientationOf X P (endOf vs i))) ≡ true →
+    metBy (isCoast vs P i) (wayOf vs X P i) ≡ Way (pos 0)
+beside-met vs X P i off h e =
+    let A = startOf vs i in
+    let B = endOf vs i in
+    rw (beside-not-on X P A B (off i h) e, beside-not-crossed X P A B e)
+
+pub way-told : (X P : Point) {a b c d : Point} {s1 s2 s4 r : ℤ} →
+    r ≡ unitOf (crossingBy (signOf s1) (signOf s2) (signOf (orientationOf a b X)) (signOf s4)) →
+    s1 ≡ orientationOf X P a → s2 ≡ orientationOf X P b → s4 ≡ orientationOf a b P → a ≡ c → b ≡ d →
+    r ≡ unitOf (crossingOf X P c d)
+unfolding crossingOf
+way-told X P r s1 s2 s4 a b = cc

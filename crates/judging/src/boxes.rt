@@ -1,0 +1,179 @@
+// Boxes beside the polygon: document 02's P2.
+// Here, in order: Bounds; lesser, greater, least, greatest, run_count, run_end, run_box (one run's box); put_number,
+// put_corner, put_box, box_at, fill (all of them, in one array of numbers); end_for, corner, is_apart. Assumes nothing.
+ghost use mathlib.Core.Path.{_≡_};
+ghost use Prim.Native.Nat.{_+_, _*_, _≤_, _<_};
+ghost use lib.ListN.{length, set};
+ghost use Rattle.sphere.specs.Point.{coarse, minors, Fits, Within};
+ghost use Rattle.polygon.specs.Accepted.{Listed, Gridded};
+ghost use Rattle.polygon.specs.Vertices.{vertexCount};
+ghost use Rattle.judging.specs.Boxes.{runCount, runEnd, lesserOf, greaterOf, leastOf, greatestOf, boxOf};
+ghost use Rattle.judging.specs.Boxes.{boxAt, pointStored, boxStored, boxesStored, endFor, cornerFor, isApart};
+use polygon::vertices::end_of;
+use polygon::vertices::vertex_at;
+use sphere::orientation::dot;
+use sphere::point::Point;
+
+// The least and the greatest coordinates over some points. Document 02: a box.
+pub struct Bounds {
+    pub low: Point,
+    pub high: Point,
+}
+
+fn lesser(a: i64, b: i64) -> i64
+    ensures { λ r. ⌜ r ≡ lesserOf a b ⌝ }
+{
+    if b < a {
+        return b;
+    }
+    a
+}
+
+fn greater(a: i64, b: i64) -> i64
+    ensures { λ r. ⌜ r ≡ greaterOf a b ⌝ }
+{
+    if a < b {
+        return b;
+    }
+    a
+}
+
+fn least(p: Point, q: Point) -> Point
+    ensures { λ r. ⌜ r ≡ leastOf p q ⌝ }
+{
+    Point {
+        x: lesser(p.x, q.x),
+        y: lesser(p.y, q.y),
+        z: lesser(p.z, q.z),
+    }
+}
+
+fn greatest(p: Point, q: Point) -> Point
+    ensures { λ r. ⌜ r ≡ greatestOf p q ⌝ }
+{
+    Point {
+        x: greater(p.x, q.x),
+        y: greater(p.y, q.y),
+        z: greater(p.z, q.z),
+    }
+}
+
+// How many runs of 32 edges n edges have.
+pub fn run_count(n: usize) -> usize
+    requires { ⌜ n ≤ 4096 ⌝ }
+    ensures { λ r. ⌜ r ≡ runCount n ⌝ }
+{
+    (n + 31) / 32
+}
+
+// The first edge after run r.
+pub fn run_end(n: usize, r: usize) -> usize
+    requires { ⌜ r < 128 ⌝ }
+    ensures { λ to. ⌜ to ≡ runEnd n r ⌝ }
+{
+    let end = r * 32 + 32;
+    if end < n {
+        return end;
+    }
+    n
+}
+
+// The box of run r, over the vertices at the ends of its edges.
+fn run_box(vertices: &[i32], r: usize) -> Bounds
+    requires { ⌜ Listed (now vertices) × (r < runCount (vertexCount (now vertices))) ⌝ }
+    ensures { λ b. ⌜ b ≡ boxOf (now (vertices .entry)) r ⌝ }
+{
+    let to = run_end(vertices.len() / 3, r);
+    let mut low = vertex_at(vertices, r * 32);
+    let mut high = low;
+    for i in r * 32..to {
+        let p = end_of(vertices, i);
+        low = least(low, p);
+        high = greatest(high, p);
+    }
+    Bounds {
+        low: low,
+        high: high,
+    }
+}
+
+fn put_number(boxes: &mut [i32], at: usize, n: i64)
+    requires { ⌜ (at < length (now boxes)) × Fits coarse n ⌝ }
+    ensures { λ _. ⌜ now (boxes .exit) ≡ set (now (boxes .entry)) at n ⌝ }
+{
+    boxes[at] = n as i32;
+}
+
+// A corner of a box: three numbers of the array.
+fn put_corner(boxes: &mut [i32], at: usize, p: Point)
+    requires { ⌜ (at + 3 ≤ length (now boxes)) × Within coarse p ⌝ }
+    ensures { λ _. ⌜ now (boxes .exit) ≡ pointStored (now (boxes .entry)) at p ⌝ }
+{
+    put_number(boxes, at, p.x);
+    put_number(boxes, at + 1, p.y);
+    put_number(boxes, at + 2, p.z)
+}
+
+// The box of run r becomes box r of the array.
+fn put_box(vertices: &[i32], boxes: &mut [i32], r: usize)
+    requires { ⌜ Listed (now vertices) × Gridded coarse (now vertices) ⌝ }
+    requires { ⌜ (r < runCount (vertexCount (now vertices))) × (r * 6 + 6 ≤ length (now boxes)) ⌝ }
+    ensures { λ _. ⌜ now (boxes .exit) ≡ boxStored (now (boxes .entry)) r (boxOf (now (vertices .entry)) r) ⌝ }
+{
+    let b = run_box(vertices, r);
+    put_corner(boxes, r * 6, b.low);
+    put_corner(boxes, r * 6 + 3, b.high)
+}
+
+pub fn box_at(boxes: &[i32], r: usize) -> Bounds
+    requires { ⌜ r * 6 + 6 ≤ length (now boxes) ⌝ }
+    ensures { λ b. ⌜ b ≡ boxAt (now (boxes .entry)) r ⌝ }
+{
+    Bounds {
+        low: vertex_at(boxes, r * 2),
+        high: vertex_at(boxes, r * 2 + 1),
+    }
+}
+
+// All boxes of the polygon, run by run.
+pub fn fill(vertices: &[i32], boxes: &mut [i32])
+    requires { ⌜ Listed (now vertices) × Gridded coarse (now vertices) × (768 ≤ length (now boxes)) ⌝ }
+    ensures { λ _. ⌜ now (boxes .exit) ≡ boxesStored (now (vertices .entry))
+        (runCount (vertexCount (now (vertices .entry)))) (now (boxes .entry)) ⌝ }
+{
+    let runs = run_count(vertices.len() / 3);
+    for r in 0..runs {
+        put_box(vertices, boxes, r);
+    }
+}
+
+// Of two ends of a box along one axis, the one where n times it is least, if a <= b; greatest, if b <= a.
+fn end_for(n: i64, a: i64, b: i64) -> i64
+    ensures { λ r. ⌜ r ≡ endFor n a b ⌝ }
+{
+    if n < 0 {
+        return b;
+    }
+    a
+}
+
+fn corner(normal: Point, a: Point, b: Point) -> Point
+    ensures { λ r. ⌜ r ≡ cornerFor normal a b ⌝ }
+{
+    Point {
+        x: end_for(normal.x, a.x, b.x),
+        y: end_for(normal.y, a.y, b.y),
+        z: end_for(normal.z, a.z, b.z),
+    }
+}
+
+// The whole box lies strictly on one side of the plane with this normal.
+pub fn is_apart(normal: Point, b: Bounds) -> bool
+    requires { ⌜ Within (minors coarse) normal × Within coarse (b .low) × Within coarse (b .high) ⌝ }
+    ensures { λ r. ⌜ r ≡ isApart normal b ⌝ }
+{
+    if dot(normal, corner(normal, b.low, b.high)) > 0 {
+        return true;
+    }
+    dot(normal, corner(normal, b.high, b.low)) < 0
+}

@@ -1,0 +1,161 @@
+//! Document 02's P2 at the C boundary: the number of sides looked at, on outlines of one run and of many.
+//! The reference decides; what is known without it is asserted here as well. Cases worked out by hand
+//! are among the charts.
+
+use crate::compare::Tally;
+use crate::islands::{islands, queries, Extent, EXTENTS, SIDES};
+use crate::outlines::{query, Source};
+use crate::program::refused_sheets;
+use crate::random::Random;
+use crate::sheet::Sheet;
+use crate::{library, Point, Single};
+use std::collections::BTreeSet;
+
+/// Comparisons, and what became of the runs in them.
+#[derive(Default)]
+struct Looks {
+    tally: Tally,
+    /// Inside or outside with no side looked at, with some, with all.
+    none: u32,
+    some: u32,
+    all: u32,
+    /// Boundary answers with a skipped run before the side named.
+    late: u32,
+}
+
+impl Looks {
+    /// The number of sides looked at.
+    fn compare(&mut self, sheet: &[u8], sides: usize, query: Point) -> usize {
+        let Single { answer, looked, .. } = self.tally.compare(sheet, query);
+        let looked = looked as usize;
+        let most = match answer.number {
+            1 | 2 => sides,
+            3 => answer.place + 1,
+            _ => 0,
+        };
+        assert!(looked <= most && most <= sides, "{answer:?}: {looked} of {sides} sides, {query:?}");
+        match (answer.number, looked) {
+            (1 | 2, 0) => self.none += 1,
+            (1 | 2, _) if looked < most => self.some += 1,
+            (1 | 2, _) => self.all += 1,
+            (3, _) if looked < most => self.late += 1,
+            _ => {}
+        }
+        looked
+    }
+
+    /// These queries; then the known point's own direction (nothing is skipped), its opposite and queries
+    /// off the grid (refused).
+    fn compare_all(&mut self, known: Point, vertices: &[Point], queries: &[Point]) {
+        let (sheet, sides) = (Sheet::new(known, vertices).bytes(), vertices.len());
+        for &query in queries {
+            self.compare(&sheet, sides, query);
+        }
+        assert_eq!(self.compare(&sheet, sides, known), sides);
+        let beyond = [[0; 3], [1_048_577, 0, 0], [1, -1_048_577, 1], [i32::MIN; 3]];
+        for query in beyond.into_iter().chain([known.map(|k| -k)]) {
+            assert_eq!(self.compare(&sheet, sides, query), 0);
+        }
+    }
+
+    fn report(&self, what: &str, at_least: u64) {
+        let Looks { tally, none, some, all, late } = self;
+        tally.report(what, at_least, [1, 2, 3, 17, 18]);
+        println!(
+            "{what}: no side looked at {none}, some {some}, all {all}; boundary past a skipped run {late}"
+        );
+        assert!([some, all, late].into_iter().all(|&times| times > 100));
+    }
+}
+
+/// Outlines about the length of a run and of many runs, with queries inside, outside, near the coast, at
+/// vertices, on sides and far away.
+#[test]
+fn looked_islands() {
+    let mut looks = Looks::default();
+    let sizes = [(31, 9, 300), (32, 9, 300), (33, 9, 300), (64, 9, 300), (SIDES, 1, 400), (4_096, 1, 100)];
+    for extent in EXTENTS {
+        for (sides, outlines, count) in sizes {
+            for seed in 0..outlines {
+                let islands = islands(seed, sides, extent);
+                looks.compare_all(islands.known, &islands.vertices, &queries(seed + 100, &islands, count));
+            }
+        }
+    }
+    looks.report("looked at, islands", 30_000);
+}
+
+/// Whether the sheet is good: a query of zeros is refused after every check of it.
+fn accepted(known: Point, vertices: &[Point]) -> bool {
+    library::number(&Sheet::new(known, vertices).bytes(), [0; 3]) == 17
+}
+
+/// A known point and n vertices from -size to size, if chance makes an outline that accepts one. The
+/// vertices stand in blocks, each of two points in turn: boxes are small, sides repeat, and the plane
+/// often touches a box.
+fn huddled(random: &mut Random, size: i32, n: usize) -> Option<(Point, Vec<Point>)> {
+    let mut vertices = vec![];
+    while vertices.len() < n {
+        let pair = [0; 2].map(|_| random.point(size));
+        let block = random.pick(&[1, 2, 33, 64, 65]).min(n - vertices.len());
+        vertices.extend(pair.iter().cycle().take(block));
+    }
+    let known = (0..8).map(|_| random.point(size + 1)).find(|&known| accepted(known, &vertices))?;
+    Some((known, vertices))
+}
+
+#[test]
+fn looked_huddled() {
+    let mut looks = Looks::default();
+    let random = &mut Random::new(110);
+    for size in [1, 2, 3, 9] {
+        let mut outlines = 0;
+        while outlines < 250 {
+            let n = random.pick(&[31, 32, 33, 34, 63, 64, 65, 97, 150, 300]);
+            if let Some((known, vertices)) = huddled(random, size, n) {
+                let ask = |_| query(random, Source::Within(size), known, &vertices);
+                let queries: Vec<Point> = (0..40).map(ask).collect();
+                looks.compare_all(known, &vertices, &queries);
+                outlines += 1;
+            }
+        }
+    }
+    looks.report("looked at, huddled", 40_000);
+    assert!(looks.none > 100);
+}
+
+/// Every box and every plane that coordinates from -1 to 1 can make: for each known point and each box the
+/// first triangle that spans the box and accepts the point, if there is one, and all queries.
+#[test]
+fn looked_boxes() {
+    let mut tally = Tally::default();
+    let mut seen = BTreeSet::new();
+    let points: Vec<Point> = (0..27).map(|k| [k / 9 - 1, k / 3 % 3 - 1, k % 3 - 1]).collect();
+    for k in 0..27 * 27 * 27 {
+        let triangle = [k / 729, k / 27 % 27, k % 27].map(|vertex| points[vertex]);
+        let along = |k: usize| triangle.iter().map(move |vertex| vertex[k]);
+        let spanned = [0, 1, 2].map(|k| (along(k).min(), along(k).max()));
+        for &known in &points {
+            if !seen.contains(&(known, spanned)) && accepted(known, &triangle) {
+                seen.insert((known, spanned));
+                let sheet = Sheet::new(known, &triangle).bytes();
+                points.iter().for_each(|&query| assert!(tally.compare(&sheet, query).looked <= 3));
+            }
+        }
+    }
+    tally.report("looked at, boxes", 50_000, [1, 2, 3, 17, 18]);
+}
+
+/// No side of a refused sheet is looked at: the octant with one thing wrong, and a long outline cut, with a
+/// byte too many, and with a damaged last vertex.
+#[test]
+fn looked_refused() {
+    let long = islands(1, SIDES, Extent::World).sheet();
+    let (cut, more) = (long[..long.len() - 1].to_vec(), [&long[..], &[0]].concat());
+    let beyond = [&long[..long.len() - 4], &i32::MAX.to_be_bytes()].concat();
+    for sheet in [vec![vec![], cut, more, beyond], refused_sheets()].concat() {
+        for query in [[3, 2, 1], [1, 1, 0], [0; 3]] {
+            assert_eq!(Tally::default().compare(&sheet, query).looked, 0);
+        }
+    }
+}
