@@ -7,3 +7,5 @@ pub mod Skipped
 pub mod Narrow
 pub mod Stored
 pub mod Met
+pub mod Scanned
+pub mod Twins

@@ -1,3 +1,4 @@
 pub mod Boxes
+pub mod Scan
 pub mod Walk
 pub mod Claims

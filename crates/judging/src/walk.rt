@@ -1,22 +1,24 @@
 // The walk over a polygon's edges: document 01's 'When the arc crosses a side', and document 02's P2.
-// Here, in order: Met, meet (one edge); counted, Tally, tally_by, walk_edges (some edges); Walk, looked_in, walk_run
-// (one run, or none of it), walk_runs (all). The plane through the reference point and the query has its normal worked
-// out once, and each vertex its side of it. Assumes nothing.
+// Here, in order: Met, meet (one edge); counted, Tally, tally_by, Near, next_near, last_inner, walk_edges (some edges);
+// Walk, looked_in, walk_run (one run, or none of it), walk_runs (all). The plane through the reference point and the
+// query has its normal worked out once, and each vertex that a scan passes its side of it. Assumes nothing.
 ghost use mathlib.Core.Path.{_≡_};
 ghost use mathlib.Core.Bool.{cond};
 ghost use Prim.Native.Nat.{_+_, _*_, _-_, _≤_, _<_};
 ghost use Rattle.integers.specs.Sign.{signOf, isZero};
-ghost use Rattle.sphere.specs.Point.{coarse, Within};
+ghost use Rattle.sphere.specs.Point.{coarse, minors, Within};
 ghost use Rattle.sphere.specs.Orientation.{orientationOf, crossOf};
 ghost use Rattle.polygon.specs.declared.answer.Check.the-variants.{Passed};
 ghost use Rattle.polygon.specs.Checks.{acceptCheck};
+ghost use Rattle.polygon.specs.Accepted.{Listed, Gridded};
 ghost use Rattle.polygon.specs.Vertices.{vertexCount, startOf, endOf};
 ghost use Rattle.polygon.specs.Verdict.{isCoast, wayOf};
 ghost use Rattle.judging.specs.Boxes.{runCount, runEnd, Boxed};
+ghost use Rattle.judging.specs.Scan.{Sided, nearFrom, lastInner};
 ghost use Rattle.judging.specs.Walk.{metBy, tallyBy, tallyFrom, reachOf, Among, walkFrom};
+use crate::border::is_coast;
 use crate::boxes;
 use polygon::answer::Found;
-use polygon::border::is_coast;
 use polygon::vertices::end_of;
 use polygon::vertices::vertex_at;
 use sphere::crossing::crossing_from;
@@ -34,6 +36,7 @@ pub enum Met {
 // Edge i, from a to b. Its own two orientations are worked out only where its ends are not strictly on one side.
 fn meet(
     vertices: &[i32],
+    boxes: &[i32],
     known: Point,
     query: Point,
     i: usize,
@@ -42,7 +45,8 @@ fn meet(
     s1: i64,
     s2: i64,
 ) -> Met
-    requires { ⌜ (acceptCheck coarse (now vertices) known ≡ Passed) × Within coarse query ⌝ }
+    requires { ⌜ (acceptCheck coarse (now vertices) known ≡ Passed) × Within coarse query
+        × Boxed (now vertices) (now boxes) ⌝ }
     requires { ⌜ (i < vertexCount (now vertices)) × (a ≡ startOf (now vertices) i) × (b ≡ endOf (now vertices) i) ⌝ }
     requires { ⌜ (s1 ≡ orientationOf known query a) × (s2 ≡ orientationOf known query b) ⌝ }
     ensures { λ r. ⌜ r ≡ metBy (isCoast (now (vertices .entry)) query i)
@@ -52,7 +56,7 @@ fn meet(
         return Met::Way(0);
     }
     let s4 = orientation(a, b, query);
-    if is_coast(vertices, i, a, b, query, s4) {
+    if is_coast(vertices, boxes, known, i, a, b, query, s4) {
         return Met::Coast;
     }
     Met::Way(crossing_from(known, a, b, s1, s2, s4))
@@ -83,40 +87,87 @@ fn tally_by(found: Found, crossed: u32, sum: i32) -> Tally
     }
 }
 
+// An edge where a scan stops, and the side of its start.
+pub struct Near {
+    pub edge: usize,
+    pub side: i64,
+}
+
+// Past the edges from i on, before `last`, whose ends are strictly on one side. Most edges of a run are, so this is the
+// inner loop: a vertex a turn, and no edge that goes back to vertex 0.
+fn next_near(vertices: &[i32], normal: Point, i: usize, side: i64, last: usize) -> Near
+    requires { ⌜ Listed (now vertices) × Gridded coarse (now vertices) × Within (minors coarse) normal ⌝ }
+    requires { ⌜ (i ≤ vertexCount (now vertices)) × (last < vertexCount (now vertices)) ⌝ }
+    requires { ⌜ Sided (now vertices) normal i side ⌝ }
+    ensures { λ r. ⌜ (r .edge ≡ nearFrom (now (vertices .entry)) normal i (last - i))
+        × Sided (now (vertices .entry)) normal (r .edge) (r .side) ⌝ }
+{
+    let mut edge = i;
+    let mut s1 = side;
+    while edge < last {
+        let s2 = dot(normal, vertex_at(vertices, edge + 1));
+        if !is_beside(s1, s2) {
+            return Near {
+                edge: edge,
+                side: s1,
+            };
+        }
+        s1 = s2;
+        edge += 1;
+    }
+    Near {
+        edge: edge,
+        side: s1,
+    }
+}
+
+// The end of those of the edges before `to` that do not go back to vertex 0.
+fn last_inner(n: usize, to: usize) -> usize
+    requires { ⌜ 0 < n ⌝ }
+    ensures { λ r. ⌜ r ≡ lastInner n to ⌝ }
+{
+    if to < n {
+        return to;
+    }
+    n - 1
+}
+
 // One pass over the edges before `to`: the first border edge that holds the query ends it, and the crossings are
 // counted and summed on the way.
 fn walk_edges(
     vertices: &[i32],
+    boxes: &[i32],
     known: Point,
     query: Point,
     normal: Point,
     from: usize,
     to: usize,
 ) -> Tally
-    requires { ⌜ (acceptCheck coarse (now vertices) known ≡ Passed) × Within coarse query ⌝ }
+    requires { ⌜ (acceptCheck coarse (now vertices) known ≡ Passed) × Within coarse query
+        × Boxed (now vertices) (now boxes) ⌝ }
     requires { ⌜ (normal ≡ crossOf known query) × (from < to) × (to ≤ vertexCount (now vertices)) ⌝ }
     ensures { λ r. ⌜ r ≡ tallyFrom (now (vertices .entry)) known query from (to - from) ⌝ }
 {
-    let mut i = from;
-    let mut a = vertex_at(vertices, from);
-    let mut s1 = dot(normal, a);
+    let last = last_inner(vertices.len() / 3, to);
+    let first = dot(normal, vertex_at(vertices, from));
+    let mut near = next_near(vertices, normal, from, first, last);
     let mut crossed: u32 = 0;
     let mut sum: i32 = 0;
     let found = loop {
+        let i = near.edge;
         if i >= to {
             break Found::Nothing;
         }
+        let a = vertex_at(vertices, i);
         let b = end_of(vertices, i);
         let s2 = dot(normal, b);
-        let way = match meet(vertices, known, query, i, a, b, s1, s2) {
+        let way = match meet(vertices, boxes, known, query, i, a, b, near.side, s2) {
             Met::Coast => break Found::At(i),
             Met::Way(way) => way,
         };
         crossed += counted(way);
         sum += way;
-        a = b;
-        s1 = s2;
-        i += 1;
+        near = next_near(vertices, normal, i + 1, s2, last);
     };
     tally_by(found, crossed, sum)
 }
@@ -161,7 +212,7 @@ fn walk_run(
     }
     let from = r * 32;
     let to = boxes::run_end(vertices.len() / 3, r);
-    let tally = walk_edges(vertices, known, query, normal, from, to);
+    let tally = walk_edges(vertices, boxes, known, query, normal, from, to);
     Walk {
         tally: tally,
         looked: looked_in(tally, from, to),

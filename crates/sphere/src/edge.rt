@@ -1,17 +1,12 @@
 // A point on an edge.
-// Here, in order: toward, between, held_by, holds_level, on_circle, on_edge_by, on_edge; joins_in_order, joins.
-// Document 01, 'Points, sides, outlines': one component of a×b that is not zero tells by signs alone; and document 02's
-// P3. Assumes nothing.
+// Here, in order: toward, between, held_by, holds_level, on_circle, on_edge_by, on_edge.
+// Document 01, 'Points, sides, outlines': one component of a×b that is not zero tells by signs alone. Assumes nothing.
 ghost use mathlib.Core.Path.{_≡_};
-ghost use mathlib.Core.Bool.{_&&_};
 ghost use lib.IntN.{pos};
 ghost use Rattle.integers.specs.Sign.{nought, signOf, isZero, isAtLeastZero, times};
 ghost use Rattle.sphere.specs.Point.{coarse, Within};
 ghost use Rattle.sphere.specs.Orientation.{orientationOf};
-ghost use Rattle.sphere.specs.Direction.{isSameDirection};
-ghost use Rattle.sphere.specs.Joined.{joinsOf};
 ghost use Rattle.sphere.specs.OnEdge.{onEdgeBy, heldBy, isOnEdge};
-use crate::direction::same_direction;
 use crate::orientation::cross;
 use crate::orientation::orientation;
 use crate::point::Point;
@@ -101,26 +96,4 @@ pub fn on_edge(a: Point, b: Point, p: Point) -> bool
     ensures { λ r. ⌜ r ≡ isOnEdge a b p ⌝ }
 {
     on_edge_by(a, b, p, orientation(a, b, p))
-}
-
-// The same two directions, in order.
-fn joins_in_order(a: Point, b: Point, c: Point, d: Point) -> bool
-    requires { ⌜ Within coarse a × Within coarse b × Within coarse c × Within coarse d ⌝ }
-    ensures { λ r. ⌜ r ≡ (isSameDirection a c && isSameDirection b d) ⌝ }
-{
-    if same_direction(a, c) {
-        return same_direction(b, d);
-    }
-    false
-}
-
-// Two edges join the same two directions, whichever way they are walked.
-pub fn joins(a: Point, b: Point, c: Point, d: Point) -> bool
-    requires { ⌜ Within coarse a × Within coarse b × Within coarse c × Within coarse d ⌝ }
-    ensures { λ r. ⌜ r ≡ joinsOf a b c d ⌝ }
-{
-    if joins_in_order(a, b, c, d) {
-        return true;
-    }
-    joins_in_order(a, b, d, c)
 }

@@ -1,5 +1,5 @@
--- Runs of 32 edges. Defined: Ends, Run. Proved, in order: run-ends, run-within, run-size, run-known, run-few, run-of.
--- Assumes nothing.
+-- Runs of 32 edges. Defined: Ends, Run. Proved, in order: run-ends, run-within, run-size, run-known, some-runs,
+-- run-few, run-of. Assumes nothing.
 use mathlib.Core.Path.{_≡_, refl}
 use mathlib.Core.Bool.{Bool, true, false, cond}
 use Prim.Native.Nat.{ℕ, _+_, _*_, _/_, _≤_, _<_}
@@ -59,6 +59,10 @@ run-known n r h = go (runEnd n r) (run-ends n r)
       within = omega arith;
       next = (λ k. omega arith, λ k. omega arith);
     }
+
+pub some-runs : (n : ℕ) → 3 ≤ n → 0 < runCount n
+unfolding runCount
+some-runs n h = omega arith
 
 pub run-few : (n r : ℕ) → n ≤ 4096 → r < runCount n → r < 128
 unfolding runCount

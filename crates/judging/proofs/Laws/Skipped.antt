@@ -68,7 +68,7 @@ module _ (vs : List ℤ) (r : ℕ) where
   }
 
 -- The end of an edge is the start of the next one.
-next-start : (vs : List ℤ) (i j : ℕ) → i + 1 ≡ j → j < vertexCount vs → endOf vs i ≡ startOf vs j
+pub next-start : (vs : List ℤ) (i j : ℕ) → i + 1 ≡ j → j < vertexCount vs → endOf vs i ≡ startOf vs j
 unfolding nextOf
 next-start vs i j e h = rw (e, lt-ltb j (vertexCount vs) h)
 

@@ -48,11 +48,15 @@ orientation-requires c κs = let s = c .before .before in (A s, B s, s .pre .0 .
 is-coast-requires : tie.Need-is-coast-requires
 is-coast-requires c κs =
     let s = c .before .before .before in
+    let a = reference s .accepted in
     let s4 = c .orientation in (
-      (reference s .accepted .listed, reference s .accepted .gridded, s .pre .1 .0 .0),
+      (a .listed, a .gridded, s .pre .0 .2),
       (
-        (s .pre .1 .0 .1, s .pre .1 .0 .2),
-        (s .pre .0 .1, result-same w64 (s4 .result) (s4 .ok) (s4 .ensures)),
+        (a .known, s .pre .1 .0 .0),
+        (
+          (s .pre .1 .0 .1, s .pre .1 .0 .2),
+          (s .pre .0 .1, result-same w64 (s4 .result) (s4 .ok) (s4 .ensures)),
+        ),
       ),
     )
 

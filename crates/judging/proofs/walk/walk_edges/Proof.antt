@@ -1,5 +1,5 @@
--- `walk_edges` meets its contract: what was told before edge i, and edge i, are told before edge i + 1.
--- Assumes nothing.
+-- `walk_edges` meets its contract: what was told before the edge at hand, that edge, and those that a scan passes are
+-- told before the next one. Assumes nothing.
 use mathlib.Core.Path.{_≡_, sym, _∙_, ap, subst}
 use mathlib.Core.List.{List}
 use mathlib.Core.Logic.{⊎-elim}
@@ -11,93 +11,159 @@ use mir.Syntax.{w32, w64}
 use mir.Val.{hbits, toZ, ofZ}
 use mir.ValLaws.{toZ-ofZ}
 use Rattle.integers.proofs.Compare.{result-same}
-use Rattle.integers.proofs.Size.{Is, known, fits, kept}
+use Rattle.integers.proofs.Size.{Is, fits, kept}
 use Rattle.sphere.specs.declared.point.Point.{Point}
 use Rattle.sphere.specs.Point.{coarse, minors, Within}
 use Rattle.sphere.specs.Orientation.{orientationOf, dotOf}
 use Rattle.sphere.proofs.Laws.Grid.{cross-within}
 use Rattle.polygon.specs.Vertices.{vertexCount}
-use Rattle.polygon.specs.Accepted.{Accepted}
-use Rattle.polygon.proofs.Laws.Search.{Carried, carried-step, start-within, end-within}
-use Rattle.polygon.proofs.Laws.Checks.{accept-passed}
+use Rattle.polygon.proofs.Laws.Search.{carried-step, end-within}
+use Rattle.polygon.proofs.Laws.Checks.{Reference, reference-accepted}
+use Rattle.judging.specs.declared.walk.Near.{Near}
 use Rattle.judging.specs.declared.walk.Tally.the-variants.{Crossed}
+use Rattle.judging.specs.Scan.{Sided, nearFrom}
 use Rattle.judging.specs.Walk.{tallyFrom}
 use Rattle.judging.proofs.Laws.Skipped.{side-of}
+use Rattle.judging.proofs.Laws.Scanned.{Inner, inner, Stopped, stopped, scanned-told}
 use Rattle.judging.proofs.Laws.Told.{Told, told-start, told-block, told-held, told-end, told-few, told-small}
 use Rattle.judging.proofs.Laws.Told.{met-held, met-way}
 use Rattle.judging.proofs.walk.walk_edges.Statement.{statement}
 use Rattle.judging.proofs.walk.walk_edges.Tie as tie
 
--- Where edge i begins: its start a, a's side of the plane, and what was told before.
-record Walked (vs : List ℤ) (X P : Point) (from to : ℕ) (a : Point) (s1 crossed sum i : ℕ) : Type 0 where
-  after : from ≤ i
-  before : i ≤ to
-  start : Carried vs i a
-  side : toZ w64 s1 ≡ orientationOf X P a
-  told : Told vs X P from i crossed (toZ w32 sum)
+-- The edge at hand: the side of its start, and what was told before.
+record Walked (vs : List ℤ) (X P N : Point) (from to : ℕ) (near : Near) (crossed sum : ℕ) : Type 0 where
+  after : from ≤ near .edge
+  before : near .edge ≤ to
+  side : Sided vs N (near .edge) (near .side)
+  told : Told vs X P from (near .edge) crossed (toZ w32 sum)
 
 abbrev Inv-loop : tie.InvT-loop
-Inv-loop vertices known query normal from to i₀ a₀ s1₀ crossed₀ sum₀ i a s1 crossed sum =
-    Walked vertices known query from to a s1 crossed sum i
+Inv-loop vertices boxes known query normal from to last first near₀ crossed₀ sum₀ near crossed sum =
+    Walked vertices known query normal from to near crossed sum
 
 abbrev μ-loop : tie.MeasureT-loop
-μ-loop vertices known query normal from to i₀ a₀ s1₀ crossed₀ sum₀ i a s1 crossed sum = to - i
+μ-loop vertices boxes known query normal from to last first near₀ crossed₀ sum₀ near crossed sum = to - near .edge
 
 module _ (s : tie.Start Inv-loop μ-loop) where
-  accepted : Accepted coarse (s .args .vertices .now) (s .args .known)
-  accepted = accept-passed (s .pre .0 .0)
+  abbrev vs : List ℤ
+  vs = s .args .vertices .now
+
+  reference : Reference coarse vs (s .args .known)
+  reference = reference-accepted coarse vs (s .args .known) (s .pre .0 .0)
 
   normal-within : Within (minors coarse) (s .args .normal)
   normal-within =
       subst (λ n. Within (minors coarse) n) (sym (s .pre .1 .0))
-      (cross-within (s .args .known) (s .args .query) (accepted .known) (s .pre .0 .1))
+      (cross-within (s .args .known) (s .args .query) (reference .accepted .known) (s .pre .0 .1))
 
   side : (p : Point) → dotOf (s .args .normal) p ≡ orientationOf (s .args .known) (s .args .query) p
   side p = ap (λ n. dotOf n p) (s .pre .1 .0) ∙ side-of (s .args .known) (s .args .query) p
 
+  some : 0 < vertexCount vs
+  some = omega (arith, reference .accepted .listed .least)
+
+-- The edges that do not go back to vertex 0.
+last : (c : tie.After-last-inner Inv-loop μ-loop) →
+    Inner (vertexCount (vs (c .before))) (c .before .args .to) (c .last-inner .result)
+last c =
+    rw (c .last-inner .ensures)
+    (inner (vertexCount (vs (c .before))) (c .before .args .to) (some (c .before)) (c .before .pre .1 .2))
+
+-- A scan from edge i on.
+module _ (c : tie.After-last-inner Inv-loop μ-loop) (i edge : ℕ)
+    (e : edge ≡ nearFrom (vs (c .before)) (c .before .args .normal) i (c .last-inner .result - i)) where
+  stop : Stopped (vs (c .before)) (c .before .args .normal) i (c .last-inner .result) edge
+  stop =
+      subst (λ k. Stopped (vs (c .before)) (c .before .args .normal) i (c .last-inner .result) k) (sym e)
+      (stopped (vs (c .before)) (c .before .args .normal) i (c .last-inner .result))
+
+  onward : {crossed : ℕ} {sum : ℤ} → c .before .args .from ≤ i →
+      let s = c .before .args in
+      Told (vs (c .before)) (s .known) (s .query) (s .from) i crossed sum →
+      Told (vs (c .before)) (s .known) (s .query) (s .from) edge crossed sum
+  onward h t =
+      let s = c .before .args in
+      scanned-told (vs (c .before)) (s .known) (s .query) (reference (c .before) .off-circle) (c .last-inner .result)
+      edge h (last c .below)
+      (subst (λ n. Stopped (vs (c .before)) n i (c .last-inner .result) edge) (c .before .pre .1 .0) stop) t
+
+last-inner-requires : tie.Need-last-inner-requires Inv-loop μ-loop
+last-inner-requires c κs = some c
+
 vertex-at-requires : tie.Need-vertex-at-requires Inv-loop μ-loop
-vertex-at-requires c κs = omega (arith, c .pre .1 .1, c .pre .1 .2)
+vertex-at-requires c κs = omega (arith, c .before .pre .1 .1, c .before .pre .1 .2)
 
 dot-requires : tie.Need-dot-requires Inv-loop μ-loop
 dot-requires c κs =
-    let s = c .before in
-    let more : s .args .from < vertexCount (s .args .vertices .now) = omega (arith, s .pre .1 .1, s .pre .1 .2) in
-    (normal-within s, start-within (accepted s .gridded) more (record { start = λ h. c .vertex-at .ensures }))
+    let s = c .before .before in
+    let more : s .args .from < vertexCount (vs s) = omega (arith, s .pre .1 .1, s .pre .1 .2) in
+    (normal-within s, rw (c .vertex-at .ensures) (reference s .accepted .gridded .each _ more))
+
+next-near-requires : tie.Need-next-near-requires Inv-loop μ-loop
+next-near-requires c κs =
+    let v = c .before in
+    let s = v .before .before in
+    let a = reference s .accepted in
+    let d = c .dot in (
+      (a .listed, a .gridded, normal-within s),
+      (
+        (omega (arith, s .pre .1 .1, s .pre .1 .2), last (v .before) .below),
+        record { known = λ h. result-same w64 (d .result) (d .ok) (rw (v .vertex-at .ensures) at (d .ensures)) },
+      ),
+    )
 
 loop-holds : tie.Need-loop-holds Inv-loop μ-loop
-loop-holds c = record {
-  after = omega arith;
-  before = omega (arith, c .before .before .pre .1 .1);
-  start = record { start = λ h. c .before .vertex-at .ensures };
-  side = result-same w64 (c .dot .result) (c .dot .ok) (c .dot .ensures) ∙ side (c .before .before) _;
-  told = told-start _;
-}
+loop-holds c =
+    let l = c .before .before .before in
+    let s = l .before .args in
+    let r = c .next-near in
+    let at = stop l (s .from) _ (r .ensures .0) in
+    record {
+      after = at .after;
+      before = omega (arith, at .before, at .after, last l .before, l .before .pre .1 .1);
+      side = r .ensures .1;
+      told = onward l (s .from) _ (r .ensures .0) (omega arith) (told-start (s .from));
+    }
 
--- Edge i.
+-- The edge at hand is one of the walk's.
 module _ (c : tie.Else1 Inv-loop μ-loop) where
-  abbrev entry : tie.Start Inv-loop μ-loop
-  entry = c .before .before .before .before
+  abbrev inner-at : tie.After-last-inner Inv-loop μ-loop
+  inner-at = c .before .before .before .before .before
 
-  more : c .before .loop .i < vertexCount (entry .args .vertices .now)
+  abbrev entry : tie.Start Inv-loop μ-loop
+  entry = inner-at .before
+
+  abbrev i : ℕ
+  i = c .before .loop .near .edge
+
+  more : i < vertexCount (vs entry)
   more = omega (arith, c .if1 .left, entry .pre .1 .2)
 
+vertex-at-requires-2 : tie.Need-vertex-at-requires-2 Inv-loop μ-loop
+vertex-at-requires-2 c κs = omega (arith, more c)
+
 end-of-requires : tie.Need-end-of-requires Inv-loop μ-loop
-end-of-requires c κs = more c
+end-of-requires c κs = more (c .before)
 
 dot-requires-2 : tie.Need-dot-requires-2 Inv-loop μ-loop
 dot-requires-2 c κs =
-    let e = c .before in
-    (normal-within (entry e), end-within (accepted (entry e) .gridded) (more e) (c .end-of .ensures))
+    let e = c .before .before in
+    (normal-within (entry e), end-within (reference (entry e) .accepted .gridded) (more e) (c .end-of .ensures))
 
 meet-requires : tie.Need-meet-requires Inv-loop μ-loop
 meet-requires c κs =
-    let e = c .before .before in
-    let inv = e .before .loop .inv in
-    let s2 = c .dot2 in (
-      (entry e .pre .0 .0, entry e .pre .0 .1),
+    let d = c .before in
+    let v = d .before .before in
+    let e = v .before in
+    let s = entry e in
+    let near = e .before .loop .inv .side .known (more e) in
+    let s1 = toZ-ofZ w64 _ (record { sfits = c .struct-told .given .1 .0 .1 }) ∙ near ∙ side s _
+    ∙ ap (orientationOf (s .args .known) (s .args .query)) (sym (v .vertex-at2 .ensures)) in
+    let s2 = d .dot2 in (
+      (s .pre .0 .0, s .pre .0 .1, s .pre .0 .2),
       (
-        (more e, inv .start .start (more e), c .before .end-of .ensures),
-        (inv .side, result-same w64 (s2 .result) (s2 .ok) (s2 .ensures) ∙ side (entry e) _),
+        (more e, v .vertex-at2 .ensures, d .before .end-of .ensures),
+        (s1, result-same w64 (s2 .result) (s2 .ok) (s2 .ensures) ∙ side s _),
       ),
     )
 
@@ -115,7 +181,7 @@ module _ (c : tie.After-counted Inv-loop μ-loop) where
   met = c .before .before .before .before
 
   abbrev edge : tie.Else1 Inv-loop μ-loop
-  edge = met .before .before .before
+  edge = met .before .before .before .before .before
 
   abbrev way : ℤ
   way = c .before .before .way .given .0 .0
@@ -124,20 +190,20 @@ module _ (c : tie.After-counted Inv-loop μ-loop) where
   same = toZ-ofZ w32 way (record { sfits = c .before .known-told .given .0 .1 })
 
   one : let s = entry edge .args in
-      tallyFrom (s .vertices .now) (s .known) (s .query) (edge .before .loop .i) 1 ≡ Crossed (c .counted .result) way
+      tallyFrom (s .vertices .now) (s .known) (s .query) (i edge) 1 ≡ Crossed (c .counted .result) way
   one =
       let s = entry edge .args in
-      met-way (s .vertices .now) (s .known) (s .query) (edge .before .loop .i)
+      met-way (s .vertices .now) (s .known) (s .query) (i edge)
       (sym (met .meet .ensures) ∙ c .before .before .way .given .1) (rw same at (c .counted .ensures))
 
   next : let s = entry edge .args in
       let l = edge .before .loop in
-      Told (s .vertices .now) (s .known) (s .query) (s .from) (l .i + 1) (l .crossed + c .counted .result)
+      Told (s .vertices .now) (s .known) (s .query) (s .from) (i edge + 1) (l .crossed + c .counted .result)
       (toZ w32 (l .sum) +ℤ way)
   next = told-block 1 (edge .before .loop .inv .after) (edge .before .loop .inv .told) one
 
-  few : edge .before .loop .i + 1 ≤ 4096
-  few = omega (arith, more edge, accepted (entry edge) .listed .most)
+  few : i edge + 1 ≤ 4096
+  few = omega (arith, more edge, reference (entry edge) .accepted .listed .most)
 
   sum : Is (toZ w32 (edge .before .loop .sum) +ℤ toZ w32 (ofZ w32 way)) (toZ w32 (edge .before .loop .sum) +ℤ way) 4096
   sum = record {
@@ -145,54 +211,84 @@ module _ (c : tie.After-counted Inv-loop μ-loop) where
     size = omega (arith, told-small next, few);
   }
 
-  room : 4096 < 2 ^ hbits w32
-  room = omega arith
+room : 4096 < 2 ^ hbits w32
+room = omega arith
 
 add-crossed : tie.Need-add-crossed Inv-loop μ-loop
 add-crossed c = omega (arith, told-few (next c), few c)
 
 add-sum : tie.Need-add-sum Inv-loop μ-loop
-add-sum c = fits (sum c) (room c)
+add-sum c = fits (sum c) room
 
-add-i : tie.Need-add-i Inv-loop μ-loop
-add-i c = omega (arith, few c)
+add-next-near : tie.Need-add-next-near Inv-loop μ-loop
+add-next-near c = omega (arith, few c)
+
+next-near-requires-2 : tie.Need-next-near-requires-2 Inv-loop μ-loop
+next-near-requires-2 c κs =
+    let e = edge c in
+    let s = entry e in
+    let a = reference s .accepted in
+    let m = met c .before .before in
+    let d = m .dot2 in (
+      (a .listed, a .gridded, normal-within s),
+      (
+        (omega (arith, more e), last (inner-at e) .below),
+        record {
+          known = λ h.
+              result-same w64 (d .result) (d .ok) (d .ensures)
+              ∙ ap (dotOf (s .args .normal)) (carried-step (i e) (m .before .end-of .ensures) .start h);
+        },
+      ),
+    )
+
+-- Where the next scan stops.
+module _ (c : tie.After-next-near2 Inv-loop μ-loop) where
+  abbrev at-edge : tie.Else1 Inv-loop μ-loop
+  at-edge = edge (c .before)
+
+  at : Stopped (vs (entry at-edge)) (entry at-edge .args .normal) (i at-edge + 1) (inner-at at-edge .last-inner .result)
+      (c .next-near2 .result .edge)
+  at = stop (inner-at at-edge) (i at-edge + 1) _ (c .next-near2 .ensures .0)
 
 loop-less : tie.Need-loop-less Inv-loop μ-loop
-loop-less c = omega (arith, edge c .if1 .left)
+loop-less c = omega (arith, at c .after, at-edge c .if1 .left)
 
 loop-again : tie.Need-loop-again Inv-loop μ-loop
 loop-again c =
-    let e = edge c in
+    let e = at-edge c in
+    let l = inner-at e in
+    let r = c .next-near2 in
     let inv = e .before .loop .inv in
-    let s2 = met c .before .dot2 in
     record {
-      after = omega (arith, inv .after);
-      before = omega (arith, e .if1 .left);
-      start = carried-step _ (met c .before .before .end-of .ensures);
-      side = result-same w64 (s2 .result) (s2 .ok) (s2 .ensures) ∙ side (entry e) _;
-      told = rw (kept w32 (room c) (sum c) .same) (next c);
+      after = omega (arith, inv .after, at c .after);
+      before = omega (arith, at c .before, at c .after, last l .before, e .if1 .left);
+      side = r .ensures .1;
+      told =
+          onward l (i e + 1) _ (r .ensures .0) (omega (arith, inv .after))
+          (rw (kept w32 room (sum (c .before)) .same) (next (c .before)));
     }
 
 tally-by-requires : tie.Need-tally-by-requires Inv-loop μ-loop
 tally-by-requires c κs = search needs
 
--- Where the loop is left: all edges are passed, or edge i holds the query.
+-- Where the loop is left: all edges are passed, or the edge at hand holds the query.
 returns : tie.Need-returns Inv-loop μ-loop
 unfolding tallyFrom
 returns c =
     let l = c .before .before in
     let inv = l .loop .inv in
-    let s = l .before .before .before .args in
-    let vs = s .vertices .now in
+    let s = l .before .before .before .before .before .args in
+    let v = s .vertices .now in
+    let edge = l .loop .near .edge in
     c .tally-by .ensures ∙ ⊎-elim
     (λ w.
-    let last : l .loop .i ≡ s .to = omega (arith, w .0 .taken, inv .before) in
-    let all = subst (λ i. Told vs (s .known) (s .query) (s .from) i (l .loop .crossed) (toZ w32 (l .loop .sum))) last
+    let last : edge ≡ s .to = omega (arith, w .0 .taken, inv .before) in
+    let all = subst (λ i. Told v (s .known) (s .query) (s .from) i (l .loop .crossed) (toZ w32 (l .loop .sum))) last
     (inv .told) in
     rw (w .1) (sym (told-end all)))
     (λ w.
-    let here = met-held vs (s .known) (s .query) (l .loop .i) (sym (w .3 .ensures) ∙ w .5 .given .1) in
-    rw (w .6, told-held 1 (inv .after) (inv .told) (s .to) (omega (arith, w .0 .left)) here))
+    let here = met-held v (s .known) (s .query) edge (sym (w .5 .ensures) ∙ w .7 .given .1) in
+    rw (w .8, told-held 1 (inv .after) (inv .told) (s .to) (omega (arith, w .0 .left)) here))
     (c .before .if1 .came)
 
 pub walk-edges-spec : {M : Type 1} → statement M
@@ -201,9 +297,12 @@ walk-edges-spec =
     (tie.spec
     Inv-loop
     μ-loop
+    last-inner-requires
     vertex-at-requires
     dot-requires
+    next-near-requires
     loop-holds
+    vertex-at-requires-2
     end-of-requires
     dot-requires-2
     meet-requires
@@ -212,7 +311,8 @@ walk-edges-spec =
     counted-requires
     add-crossed
     add-sum
-    add-i
+    add-next-near
+    next-near-requires-2
     loop-less
     loop-again
     tally-by-requires

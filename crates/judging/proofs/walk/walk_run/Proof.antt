@@ -1,14 +1,14 @@
 -- `walk_run` meets its contract: a run whose box is apart says nothing. Assumes nothing.
-use mathlib.Core.Path.{_≡_, sym, _∙_, subst}
+use mathlib.Core.Path.{_≡_, sym, _∙_, ap, subst}
 use mathlib.Core.Bool.{Bool}
-use Prim.Native.Nat.{_*_, _<_}
+use Prim.Native.Nat.{_*_, _-_, _<_}
 use native.Mathlib.Omega.{arith}
 use Rattle.sphere.specs.Point.{coarse, minors, Within}
 use Rattle.sphere.proofs.Laws.Grid.{cross-within}
 use Rattle.polygon.specs.Vertices.{vertexCount}
 use Rattle.polygon.proofs.Laws.Checks.{Reference, reference-accepted}
 use Rattle.judging.specs.Boxes.{runEnd, boxOf, isSkipped}
-use Rattle.judging.specs.Walk.{walkFrom}
+use Rattle.judging.specs.Walk.{tallyFrom, reachOf, walkFrom}
 use Rattle.judging.proofs.Laws.Runs.{Run, run-known, run-few}
 use Rattle.judging.proofs.Laws.Skipped.{box-within, skipped-run, looked-run}
 use Rattle.judging.proofs.Laws.Told.{reach-tally, tally-among}
@@ -68,7 +68,7 @@ walk-edges-requires : tie.Need-walk-edges-requires
 walk-edges-requires c κs =
     let s = c .before .before .before .before in
     let e = c .run-end .ensures in (
-      (s .pre .0 .0, s .pre .0 .1),
+      (s .pre .0 .0, s .pre .0 .1, s .pre .1 .1),
       (s .pre .1 .0 .0, omega (arith, e, run s .some), omega (arith, e, run s .within)),
     )
 
@@ -96,8 +96,10 @@ returns-2 c =
     let test = skipped (t .before .before .before) (t .before .before .if1 .left) in
     let looked = looked-run vs (a .known) (a .query) (a .r) test in
     let reached = reach-tally vs (a .known) (a .query) (a .r * 32) (runEnd (vertexCount vs) (a .r)) in
-    let tally = rw to at (t .walk-edges .ensures) in
-    cc (tally, looked, reached, to, c .looked-in .ensures)
+    let tally = t .walk-edges .ensures
+    ∙ ap (λ to. tallyFrom vs (a .known) (a .query) (a .r * 32) (to - a .r * 32)) to in
+    let came = c .looked-in .ensures ∙ (λ i. reachOf (tally i) (a .r * 32) (to i)) ∙ reached ∙ sym looked in
+    λ i. record { tally = tally i; looked = came i }
 
 pub walk-run-spec : {M : Type 1} → statement M
 walk-run-spec =

@@ -20,9 +20,9 @@ use Rattle.polygon.specs.Verdict.{isCoast}
 use Rattle.polygon.proofs.Laws.Blocks.{count-bound}
 use Rattle.polygon.proofs.Laws.Checks.{accept-passed}
 use Rattle.judging.specs.declared.walk.Tally.the-variants.{Crossed}
-use Rattle.judging.specs.Boxes.{runCount, runEnd}
+use Rattle.judging.specs.Boxes.{runEnd}
 use Rattle.judging.specs.Walk.{tallyFrom, isLooked, lookedFrom, walkFrom}
-use Rattle.judging.proofs.Laws.Runs.{Run, run-known}
+use Rattle.judging.proofs.Laws.Runs.{Run, run-known, some-runs}
 use Rattle.judging.proofs.Laws.Told.{Told, told-start, told-block, told-held, told-few, told-small}
 use Rattle.judging.proofs.Laws.Told.{crossed-parts, held-at, looked-block, looked-held, looked-bound}
 use Rattle.judging.proofs.Laws.Told.{walk-passed, walk-held, all-left}
@@ -51,10 +51,6 @@ accepted s = accept-passed (s .pre .0 .0)
 
 run-count-requires : tie.Need-run-count-requires Inv-loop μ-loop
 run-count-requires c κs = accepted c .listed .most
-
-some-runs : (n : ℕ) → 3 ≤ n → 0 < runCount n
-unfolding runCount
-some-runs n h = omega arith
 
 loop-holds : tie.Need-loop-holds Inv-loop μ-loop
 unfolding countFrom
