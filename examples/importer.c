@@ -29,7 +29,7 @@ struct stop {
 };
 
 /* One byte more than a sheet can have: a longer file is refused by that byte, if not before. */
-static uint8_t sheet[49305];
+static uint8_t sheet[49320];
 static struct stop stops[FEED_MOST];
 static uint8_t queries[QUERY * FEED_MOST];
 static uint8_t results[QUERY * FEED_MOST];

@@ -3,8 +3,8 @@
  *
  * The polygon comes as a zone sheet (bytes) and the query as three whole numbers. Five calls take the same arguments
  * and each fetches one part of the same answer: its number, its place, its count, its sum, the sides looked at. Three
- * more judge a feed, any number of queries to one sheet. All work is in whole numbers, so no answer depends on
- * rounding.
+ * more judge a feed, any number of queries to one sheet, and two choose a second known point for a sheet. All work is
+ * in whole numbers, so no answer depends on rounding.
  *
  *     cc client.c $(pkg-config --cflags --libs spargolutta)
  *
@@ -18,8 +18,8 @@
  * A side is border if the number of sides that join its two directions, whichever way they are walked, is odd. A
  * corridor to a hole or to another island, walked out and back, is none: a point on it is inside or outside.
  *
- * A zone sheet has 69 to 49,304 bytes: five fields in this order, each a one-byte tag, a two-byte length and a body.
- * All numbers are big-endian, coordinates are signed 32-bit.
+ * A zone sheet has 69 to 49,319 bytes: five fields in this order, each a one-byte tag, a two-byte length and a body,
+ * and a sixth if there is a second known point. All numbers are big-endian, coordinates are signed 32-bit.
  *
  *     tag  body                                                       length
  *     1    zone number, unsigned                                      4
@@ -27,6 +27,12 @@
  *     3    name, as received                                          1 to 120
  *     4    known point x, y, z                                        12
  *     5    vertices x, y, z                                           12 each: 36 to 49,152 (3 to 4,096 vertices)
+ *     6    second known point x, y, z; the field may be missing       12
+ *
+ * From the known point alone, the query opposite to it cannot be judged: it gets 18. With a second known point it is
+ * judged from that one, and 18 no longer occurs. The second point passes if it would do as a known point (neither 15
+ * nor 16), is not of the known point's direction, and is inside as judged from the known point. spg_choose_number
+ * finds one that does. A library from before tag 6 refuses a sheet that has it, with 24.
  */
 #ifndef SPARGOLUTTA_H
 #define SPARGOLUTTA_H
@@ -41,19 +47,21 @@ extern "C" {
 /*
  * The numbers. Place and count are 0 where the table names none.
  *
- * A feed's lengths come first (26, 27). A sheet is checked field by field: three head bytes present (20), tag (21),
- * length (22), body present (20), character set (23). Then come 24 and 11 to 16, each over the whole list before the
- * next; then the query's 17 and 18. The first that holds is given. 10 is listed for completeness: in a sheet 22 comes
- * before it, so these calls never give it. Nor do they give 25, which is of writing a sheet. 0, 26 and 27 are a feed's
- * own; a query's answer is never one of them.
+ * The lengths of a feed (26, 27) or of candidates (10) come first. A sheet is checked field by field: three head bytes
+ * present (20), tag (21), length (22), body present (20), character set (23). A byte 6 after the vertices starts the
+ * sixth field (20, 22), any other is 24, and so is any byte after the sixth. Then come 11 to 16, each over the whole
+ * list before the next, and 19; then the query's 17 and 18. The first that holds is given. Here 10 is of candidates
+ * alone: in a sheet 22 comes before it. 25 is of writing a sheet, and these calls never give it. 0, 10, 26 and 27 are
+ * never a query's answer.
  */
 enum spg_number {
                                 /* meaning                                             place / count                  */
     SPG_DONE = 0,               /* a feed was judged and its results are written                                      */
+                                /* a candidate was chosen                              place: its number              */
     SPG_INSIDE = 1,             /* inside                                              count: sides crossed           */
     SPG_OUTSIDE = 2,            /* outside                                             count: sides crossed           */
     SPG_BOUNDARY = 3,           /* on a border side                                    place: lowest such side        */
-    SPG_BAD_LIST = 10,          /* not whole threes, or under 3 or over 4,096 vertices                                */
+    SPG_BAD_LIST = 10,          /* a list not whole, or under 3 or over 4,096 vertices                                */
     SPG_VERTEX_OFF_GRID = 11,   /* a vertex has a number beyond the grid               place: lowest such vertex      */
     SPG_VERTEX_ZERO = 12,       /* a vertex is all zero                                place: lowest such vertex      */
     SPG_SIDE_SAME = 13,         /* a side's ends have the same direction               place: lowest such side        */
@@ -61,7 +69,8 @@ enum spg_number {
     SPG_KNOWN_OFF_GRID = 15,    /* the known point is beyond the grid or all zero                                     */
     SPG_KNOWN_ON_CIRCLE = 16,   /* the known point is on the great circle of a side    place: lowest such side        */
     SPG_QUERY_OFF_GRID = 17,    /* the query is beyond the grid or all zero                                           */
-    SPG_QUERY_OPPOSITE = 18,    /* the query is opposite the known point                                              */
+    SPG_QUERY_OPPOSITE = 18,    /* the query is opposite the only known point                                         */
+    SPG_NO_SECOND = 19,         /* the second known point does not pass, or no candidate does                         */
     SPG_SHEET_CUT = 20,         /* the sheet is cut short                              place: where the field begins  */
     SPG_SHEET_TAG = 21,         /* wrong tag                                           place: where the field begins  */
     SPG_SHEET_LENGTH = 22,      /* length not allowed                                  place: where the field begins  */
@@ -79,6 +88,8 @@ enum spg_number {
  * x, y, z           The query. Any numbers will do: off the grid they give 17. As 17 comes after every check of the
  *                   sheet, the query 0, 0, 0 asks about the sheet alone: 17 says that it is good.
  * Result            A number of the table, its place, its count. With equal arguments the three belong together.
+ *                   The point that judges is the known point or, if the sheet has a second one and the query is
+ *                   opposite the first, the second.
  *
  * Nothing is written: not to the sheet, not anywhere else. The calls keep no state, allocate nothing and always return.
  * Any number of threads may call at once, on the same sheet too. Each call checks the whole sheet and works out the
@@ -89,7 +100,7 @@ size_t spg_judge_place(const uint8_t *sheet, size_t sheet_len, int32_t x, int32_
 uint32_t spg_judge_count(const uint8_t *sheet, size_t sheet_len, int32_t x, int32_t y, int32_t z);
 /*
  * spg_judge_sum: which way the sides were crossed, for the same arguments. 1 for each side AB that the arc from the
- * known point X to the query P crosses with turn(A,B,X) < 0 < turn(A,B,P), -1 for each that it crosses with
+ * point X that judges to the query P crosses with turn(A,B,X) < 0 < turn(A,B,P), -1 for each that it crosses with
  * turn(A,B,P) < 0 < turn(A,B,X), added up over all sides; 0 for boundary and refusals. It is odd exactly when the count
  * is, and reversing the list of vertices negates it.
  *
@@ -102,8 +113,9 @@ int32_t spg_judge_sum(const uint8_t *sheet, size_t sheet_len, int32_t x, int32_t
  * spg_judge_looked: how many sides were looked at, for the same arguments. The sides are taken in runs of 32 (0 to 31,
  * 32 to 63 and so on, the last run may be shorter), each with a box: the least and greatest x, y and z of the vertices
  * at the ends of its sides. A run is skipped exactly when its whole box lies strictly on one side of the plane through
- * known point and query; so none is if these have one direction. Counted are all sides of the runs not skipped, for
- * boundary only those up to and including the side named; 0 for refusals. It never exceeds the number of sides.
+ * the point that judges and the query; so none is if these have one direction. Counted are all sides of the runs not
+ * skipped, for boundary only those up to and including the side named; 0 for refusals. It never exceeds the number of
+ * sides.
  *
  * It is good for tuning: it says how much of an outline a query touches, and an outline whose neighbouring vertices lie
  * close together lets more runs be skipped. The rest of the answer does not depend on it: a skipped side is neither
@@ -140,6 +152,34 @@ size_t spg_feed_place(const uint8_t *sheet, size_t sheet_len, const uint8_t *que
 uint32_t spg_feed_count(const uint8_t *sheet, size_t sheet_len, const uint8_t *queries, size_t queries_len,
                         size_t results_len);
 
+/*
+ * spg_choose_number, spg_choose_place: which candidate passes as a second known point of a sheet, the earliest of them.
+ *
+ * sheet, sheet_len            As above. A tag 6 that it has already is read by its bytes (20, 22, 24) and its point is
+ *                             not looked at, so a sheet whose second point fails can be given another.
+ * candidates, candidates_len  The candidates, 12 bytes each, as in the sheet. Any bytes and any number of them: one
+ *                             that is off the grid, all zero or fails otherwise is passed over.
+ * Result                      0, and as place the number of the earliest candidate that passes. Or 10 if the candidates
+ *                             are not whole twelves, the sheet's refusal (20 to 24, 11 to 16), or 19 if no candidate
+ *                             passes. With equal arguments the two belong together, and the count is always 0.
+ *
+ * Nothing is written. No pointer may be NULL, even where its length is 0. For the rest as spg_judge_number. Each
+ * candidate costs up to two passes over the vertices.
+ *
+ * It is made to be called once for a harbour, and not each night: an importer chooses among points of the harbour
+ * (quays, say), puts the one that was chosen behind the sheet as tag 6, and stores that. All later calls on it, feeds
+ * too, need no candidates.
+ *
+ *     if (spg_choose_number(sheet, sheet_len, candidates, candidates_len) == SPG_DONE) {
+ *         size_t chosen = spg_choose_place(sheet, sheet_len, candidates, candidates_len);
+ *         memcpy(sheet + sheet_len, "\x06\x00\x0c", 3);                       // sheet: 15 bytes of room behind it
+ *         memcpy(sheet + sheet_len + 3, candidates + 12 * chosen, 12);
+ *         sheet_len += 15;                                                    // a sheet that had no tag 6 before
+ *     }
+ */
+uint32_t spg_choose_number(const uint8_t *sheet, size_t sheet_len, const uint8_t *candidates, size_t candidates_len);
+size_t spg_choose_place(const uint8_t *sheet, size_t sheet_len, const uint8_t *candidates, size_t candidates_len);
+
 /* A short English text for a number of the table, for logs; for any other, "unknown number". Never NULL. */
 static inline const char *spg_meaning(uint32_t number)
 {
@@ -148,7 +188,7 @@ static inline const char *spg_meaning(uint32_t number)
     case SPG_INSIDE: return "inside";
     case SPG_OUTSIDE: return "outside";
     case SPG_BOUNDARY: return "boundary";
-    case SPG_BAD_LIST: return "vertex list of a length not allowed";
+    case SPG_BAD_LIST: return "list of a length not allowed";
     case SPG_VERTEX_OFF_GRID: return "vertex beyond the grid";
     case SPG_VERTEX_ZERO: return "vertex all zero";
     case SPG_SIDE_SAME: return "side's ends in the same direction";
@@ -157,6 +197,7 @@ static inline const char *spg_meaning(uint32_t number)
     case SPG_KNOWN_ON_CIRCLE: return "known point on the great circle of a side";
     case SPG_QUERY_OFF_GRID: return "query beyond the grid or all zero";
     case SPG_QUERY_OPPOSITE: return "query opposite the known point";
+    case SPG_NO_SECOND: return "no second known point that passes";
     case SPG_SHEET_CUT: return "sheet cut short";
     case SPG_SHEET_TAG: return "wrong tag in the sheet";
     case SPG_SHEET_LENGTH: return "length not allowed in the sheet";

@@ -1,68 +1,64 @@
 /*
  * Calls the library on bytes that stand where a read or write too far ends the program.
  *
- *     client        reads cases from standard input and prints number, place, count, sum and sides looked at for each,
- *                   a line a case. A case is the sheet and the query.
- *     client feed   the same for feeds: number, place, count, and the result buffer as the call leaves it, in
- *                   hexadecimal. A case is the sheet, the queries, and a result buffer's bytes.
- *     client long   prints number, place and count of a feed whose queries have more than 32 bits of bytes.
- *     client stack  reads one case of a feed and prints how many bytes of stack a thread needs for all eight calls,
- *                   with the feed's first query for the single ones.
+ *     client        reads cases (sheet, query) from standard input and prints a line for each.
+ *     client choose the same for candidates. A case is the sheet and the candidates.
+ *     client feed   the same for feeds, with the result buffer as the call leaves it, in hexadecimal. A case is the
+ *                   sheet, the queries, and a result buffer's bytes.
+ *     client long   prints the line of a feed whose queries have more than 32 bits of bytes.
+ *     client stack  reads one case of a feed and prints how many bytes of stack a thread needs for all ten calls, with
+ *                   the feed's first query for the single ones and all its queries as candidates.
  *
- * In a case all bytes have their length before them (4 bytes, big-endian). All that is lent stands once right
- * before a page that may not be touched and once right behind one, on pages that can only be read while it is judged;
- * but for the result buffer: see feed_placed. Both places have to give the same answer.
+ * A line begins with number, place, count, sum and sides looked at; those that the calls do not give are 0.
+ *
+ * The parts of a case have their lengths before them (4 bytes, big-endian). All that is lent stands once right before a
+ * page that may not be touched and once right behind one, on pages that can only be read while it is judged; but for
+ * the result buffer: see feed_placed. Both places have to give the same answer.
  */
+#include "rooms.h"
+
 #include <pthread.h>
 #include <spargolutta.h>
 #include <stdbool.h>
 #include <stdio.h>
-#include <stdlib.h>
 #include <string.h>
 #include <sys/mman.h>
-#include <unistd.h>
 
-#define ROOM (1 << 17)
 #define STACK_ROOM (1 << 20)
 #define PAINT 0xa5
 
-struct bytes {
-    uint8_t *at;
-    size_t length;
-};
-
 struct judged {
     struct bytes sheet, queries, results;
-    uint32_t number;
+    uint32_t number, count, looked;
     size_t place;
-    uint32_t count;
     int32_t sum;
-    uint32_t looked;
 };
-
-static void require(bool holds, const char *what)
-{
-    if (!holds) {
-        fprintf(stderr, "client: %s\n", what);
-        exit(1);
-    }
-}
 
 static uint32_t word_at(const uint8_t *bytes)
 {
     return (uint32_t)bytes[0] << 24 | (uint32_t)bytes[1] << 16 | (uint32_t)bytes[2] << 8 | bytes[3];
 }
 
+/* The first of the queries. */
 static void judge(struct judged *j)
 {
     struct bytes s = j->sheet;
-    const uint8_t *query = j->queries.at;
-    int32_t x = (int32_t)word_at(query), y = (int32_t)word_at(query + 4), z = (int32_t)word_at(query + 8);
+    const uint8_t *q = j->queries.at;
+    require(j->queries.length >= 12, "no query");
+    int32_t x = (int32_t)word_at(q), y = (int32_t)word_at(q + 4), z = (int32_t)word_at(q + 8);
     j->number = spg_judge_number(s.at, s.length, x, y, z);
     j->place = spg_judge_place(s.at, s.length, x, y, z);
     j->count = spg_judge_count(s.at, s.length, x, y, z);
     j->sum = spg_judge_sum(s.at, s.length, x, y, z);
     j->looked = spg_judge_looked(s.at, s.length, x, y, z);
+}
+
+/* The queries are candidates. */
+static void choose(struct judged *j)
+{
+    struct bytes s = j->sheet, c = j->queries;
+    j->number = spg_choose_number(s.at, s.length, c.at, c.length);
+    j->place = spg_choose_place(s.at, s.length, c.at, c.length);
 }
 
 static void feed(struct judged *j)
@@ -73,35 +69,12 @@ static void feed(struct judged *j)
     j->number = spg_feed_number(s.at, s.length, q.at, q.length, r.at, r.length);
 }
 
-static void *judge_and_feed(void *argument)
+static void *all_calls(void *argument)
 {
     judge(argument);
+    choose(argument);
     feed(argument);
     return NULL;
-}
-
-/* ROOM bytes between two pages that may not be touched. */
-static uint8_t *guarded_room(void)
-{
-    size_t page = (size_t)sysconf(_SC_PAGESIZE);
-    uint8_t *all = mmap(NULL, ROOM + 2 * page, PROT_NONE, MAP_PRIVATE | MAP_ANONYMOUS, -1, 0);
-    require(all != MAP_FAILED, "no memory");
-    return all + page;
-}
-
-static void protect(uint8_t *room, size_t length, int protection)
-{
-    require(mprotect(room, length, protection) == 0, "pages cannot be changed");
-}
-
-/* Puts the bytes into the room, at its start or at its end, and closes it for writing. */
-static struct bytes lend(uint8_t *room, struct bytes from, bool at_end)
-{
-    struct bytes lent = {at_end ? room + ROOM - from.length : room, from.length};
-    protect(room, ROOM, PROT_READ | PROT_WRITE);
-    memcpy(lent.at, from.at, from.length);
-    protect(room, ROOM, PROT_READ);
-    return lent;
 }
 
 /* Reads bytes with their length before them; false at the end of the input. */
@@ -125,7 +98,8 @@ static bool read_feed(struct judged *j)
 
 static void print_answer(const struct judged *j, char after)
 {
-    printf("%u %zu %u%c", (unsigned)j->number, j->place, (unsigned)j->count, after);
+    printf("%u %zu %u %d %u%c", (unsigned)j->number, j->place, (unsigned)j->count, (int)j->sum, (unsigned)j->looked,
+           after);
 }
 
 static bool same_answer(const struct judged *j, const struct judged *k)
@@ -134,19 +108,19 @@ static bool same_answer(const struct judged *j, const struct judged *k)
            && j->looked == k->looked;
 }
 
-static void judge_cases(struct judged *from)
+static void answer_cases(struct judged *from, void (*call)(struct judged *))
 {
-    uint8_t *room = guarded_room();
+    uint8_t *sheets = guarded_room(), *queries = guarded_room();
     while (read_row(&from->sheet) && read_row(&from->queries)) {
         struct judged first = *from, last = *from;
-        require(from->queries.length == 12, "not one query");
-        first.sheet = lend(room, from->sheet, false);
-        judge(&first);
-        last.sheet = lend(room, from->sheet, true);
-        judge(&last);
-        require(same_answer(&first, &last), "the answer depends on where the sheet stands");
-        print_answer(&last, ' ');
-        printf("%d %u\n", (int)last.sum, (unsigned)last.looked);
+        first.sheet = lend(sheets, from->sheet, false);
+        first.queries = lend(queries, from->queries, false);
+        call(&first);
+        last.sheet = lend(sheets, from->sheet, true);
+        last.queries = lend(queries, from->queries, true);
+        call(&last);
+        require(same_answer(&first, &last), "the answer depends on where the bytes stand");
+        print_answer(&last, '\n');
     }
 }
 
@@ -212,20 +186,22 @@ static void feed_long(struct judged *j)
 }
 
 /* Judges in a thread whose stack is painted first, and counts the bytes that lost their paint. */
-static size_t stack_needed(struct judged *j)
+static void print_stack(struct judged *j)
 {
     static uint8_t stack[STACK_ROOM] __attribute__((aligned(4096)));
     pthread_attr_t attributes;
     pthread_t thread;
     size_t untouched = 0;
+    require(read_feed(j), "no case");
     memset(stack, PAINT, sizeof stack);
     require(pthread_attr_init(&attributes) == 0, "no thread attributes");
     require(pthread_attr_setstack(&attributes, stack, sizeof stack) == 0, "stack not taken");
-    require(pthread_create(&thread, &attributes, judge_and_feed, j) == 0, "no thread");
+    require(pthread_create(&thread, &attributes, all_calls, j) == 0, "no thread");
     require(pthread_join(thread, NULL) == 0, "thread lost");
+    require(j->number == SPG_DONE, "the feed is refused");
     while (untouched < sizeof stack && stack[untouched] == PAINT)
         untouched++;
-    return sizeof stack - untouched;
+    printf("%zu\n", sizeof stack - untouched);
 }
 
 int main(int argc, char **argv)
@@ -233,16 +209,13 @@ int main(int argc, char **argv)
     static uint8_t sheet[ROOM], queries[ROOM], results[ROOM];
     const char *mode = argc == 2 ? argv[1] : "";
     struct judged from = {.sheet = {sheet, 0}, .queries = {queries, 0}, .results = {results, 0}};
-    if (strcmp(mode, "feed") == 0) {
+    if (strcmp(mode, "feed") == 0)
         feed_cases(&from);
-    } else if (strcmp(mode, "long") == 0) {
+    else if (strcmp(mode, "long") == 0)
         feed_long(&from);
-    } else if (strcmp(mode, "stack") == 0) {
-        require(read_feed(&from), "no case");
-        printf("%zu\n", stack_needed(&from));
-        require(from.number == SPG_DONE, "the feed is refused");
-    } else {
-        judge_cases(&from);
-    }
+    else if (strcmp(mode, "stack") == 0)
+        print_stack(&from);
+    else
+        answer_cases(&from, strcmp(mode, "choose") == 0 ? choose : judge);
     return 0;
 }

@@ -7,7 +7,7 @@
 
 int main(void)
 {
-    static uint8_t sheet[49305], queries[PIECE], results[PIECE];
+    static uint8_t sheet[49320], queries[PIECE], results[PIECE];
     size_t sheet_len = 0, done = 0, got;
     FILE *file = fopen("zone.sheet", "rb");
     if (file != NULL) {

@@ -8,6 +8,7 @@ struct Chart {
     case: &'static str,
     vertices: Vec<Point>,
     known: Point,
+    second: Option<Point>,
     query: Point,
     /// Number, place, count.
     answer: (u32, usize, u32),
@@ -16,7 +17,7 @@ struct Chart {
     looked: u32,
 }
 
-/// With a sum of 0, and no run skipped.
+/// Without a second point, with a sum of 0, and no run skipped.
 fn chart(
     case: &'static str,
     vertices: &[Point],
@@ -29,10 +30,15 @@ fn chart(
         (3, place, _) => place + 1,
         _ => 0,
     };
-    Chart { case, vertices: vertices.to_vec(), known, query, answer, sum: 0, looked: looked as u32 }
+    let (vertices, looked) = (vertices.to_vec(), looked as u32);
+    Chart { case, vertices, known, second: None, query, answer, sum: 0, looked }
 }
 
 impl Chart {
+    fn second(self, second: Point) -> Chart {
+        Chart { second: Some(second), ..self }
+    }
+
     fn sum(self, sum: i32) -> Chart {
         Chart { sum, ..self }
     }
@@ -43,12 +49,12 @@ impl Chart {
 }
 
 fn all_give(charts: &[Chart]) {
-    for Chart { case, vertices, known, query, answer: (number, place, count), sum, looked } in charts {
-        let answer = Answer { number: *number, place: *place, count: *count };
-        let expected = Single { answer, sum: *sum, looked: *looked };
-        let sheet = Sheet::new(*known, vertices).bytes();
-        assert_eq!(reference::single(&sheet, *query), expected, "{case}: reference");
-        assert_eq!(library::single(&sheet, *query), expected, "{case}: library");
+    for chart in charts {
+        let &Chart { case, known, second, query, answer: (number, place, count), sum, looked, .. } = chart;
+        let expected = Single { answer: Answer { number, place, count }, sum, looked };
+        let sheet = Sheet { second, ..Sheet::new(known, &chart.vertices) }.bytes();
+        assert_eq!(reference::single(&sheet, query), expected, "{case}: reference");
+        assert_eq!(library::single(&sheet, query), expected, "{case}: library");
     }
     println!("charts: {} compared", charts.len());
 }
@@ -171,6 +177,9 @@ fn corridors() {
 /// In the fourth box y goes from 1 to 3 and z is 5. The normals (0,-1,-1) and (0,1,1) give sums from -8 to -6
 /// and from 6 to 8: skipped. In the last, y goes from 2 to 6 and z from 1 to 5. With (0,1,-1) every vertex
 /// has a sum above 0, but the box's sums begin at -3: not skipped.
+///
+/// With P4's second point the plane for the opposite of X goes through that. From (1,-1,1) to (-2,0,0) the
+/// normal is (0,-2,-2). From (1,-2,-5) it is (0,10,-4): y = 1, 2 and 3 give the sums -10, 0 and 10.
 #[test]
 fn boxes() {
     let above = [[-1, 1, -1], [-1, 0, -1], [-1, 1, 0]];
@@ -186,6 +195,8 @@ fn boxes() {
         chart("a box above", &apart, [1, 0, 0], [0, 1, -1], (1, 0, 0)).looked(0),
         chart("no plane", &apart, [1, 0, 0], [2, 0, 0], (1, 0, 0)).looked(3),
         chart("opposite", &apart, [1, 0, 0], [-2, 0, 0], (18, 0, 0)).looked(0),
+        chart("opposite, box apart", &apart, [1, 0, 0], [-2, 0, 0], (1, 0, 0)).second([1, -1, 1]).looked(0),
+        chart("opposite, box met", &apart, [1, 0, 0], [-2, 0, 0], (1, 0, 0)).second([1, -2, -5]).looked(3),
         chart("a plane through a box, past the vertices", &slanting, [1, 0, 0], [0, -1, -1], (1, 0, 0))
             .looked(3),
     ]);
@@ -216,6 +227,7 @@ fn two_runs() {
         chart("past side 33", &long, [1, 0, 0], [1, 0, 20], (2, 0, 1)).sum(1).looked(2),
         chart("past sides 33 and 32", &long, [1, 0, 0], [-1, 0, 1], (1, 0, 2)).looked(2),
         chart("the known point's direction", &long, [1, 0, 0], [5, 0, 0], (1, 0, 0)).looked(34),
+        chart("opposite", &long, [1, 0, 0], [-1, 0, 0], (1, 0, 0)).second([-1, 0, 1]).looked(2),
         chart("both runs apart", &long, [1, 0, 0], [0, -1, 1], (1, 0, 0)).looked(0),
     ]);
 }

@@ -2,25 +2,31 @@
 
 use crate::compare::Tally;
 use crate::random::Random;
-use crate::sheet::{field, octant, Sheet};
+use crate::sheet::{field, octant, octant_pair, Sheet};
 use crate::Point;
 
 type Case = (Vec<u8>, Point);
 
 const K2: Point = [3, 2, 1];
+const K8: Point = [-1, -1, -1];
 
-/// Every beginning of the octant's sheet, and every value of every byte of it: alone, with the last
-/// byte gone, and with a byte too many.
+/// Every beginning of the octant's sheet with a second point, and every value of every byte of it and
+/// of the sheet without one: alone, with the last byte gone, and with a byte too many. The query is
+/// K2, and K8 where it is judged from the second point.
 fn octant_everywhere() -> Vec<Case> {
-    let whole = octant().bytes();
-    let mut cases: Vec<Case> = (0..whole.len()).map(|end| (whole[..end].to_vec(), K2)).collect();
+    let cases = everywhere(octant().bytes(), K2);
+    [cases, everywhere(octant_pair().bytes(), K2), everywhere(octant_pair().bytes(), K8)].concat()
+}
+
+fn everywhere(whole: Vec<u8>, query: Point) -> Vec<Case> {
+    let mut cases: Vec<Case> = (0..whole.len()).map(|end| (whole[..end].to_vec(), query)).collect();
     for at in 0..whole.len() {
         for value in 0..=255 {
             let mut sheet = whole.clone();
             sheet[at] = value;
-            cases.push((sheet.clone(), K2));
-            cases.push((sheet[..whole.len() - 1].to_vec(), K2));
-            cases.push(([sheet, vec![value]].concat(), K2));
+            cases.push((sheet.clone(), query));
+            cases.push((sheet[..whole.len() - 1].to_vec(), query));
+            cases.push(([sheet, vec![value]].concat(), query));
         }
     }
     cases
@@ -31,9 +37,9 @@ fn field_lengths() -> Vec<Case> {
     let near = |k: usize| [k.wrapping_sub(1), k, k + 1].into_iter().filter(|&k| k < 65_536);
     let limits = [0, 4, 12, 24, 36, 48, 120, 256, 49_140, 49_152, 49_164, 65_535];
     let mut cases = vec![];
-    for which in 0..5 {
+    for which in 0..6 {
         for length in limits.into_iter().flat_map(near) {
-            let mut fields = octant().fields();
+            let mut fields = octant_pair().fields();
             let body: Vec<u8> = fields[which][3..].iter().copied().cycle().take(length).collect();
             fields[which] = field(which as u8 + 1, &body);
             let sheet = fields.concat();
@@ -46,13 +52,14 @@ fn field_lengths() -> Vec<Case> {
     cases
 }
 
-/// A good sheet whose parts have many lengths.
+/// A good sheet whose parts have many lengths, but for its second point: that may fail.
 fn any_sheet(random: &mut Random) -> Sheet {
     let mut sheet = octant();
     sheet.zone = random.bits() as u32;
     sheet.charset = random.between(1, 3) as u8;
     let length = random.pick(&[1, 2, 3, 12, 119, 120]);
     sheet.name = (0..length).map(|_| random.bits() as u8).collect();
+    sheet.second = random.once_in(2).then(|| random.point(2));
     sheet
 }
 
@@ -62,7 +69,7 @@ fn damaged_together(count: usize) -> Vec<Case> {
     let random = &mut Random::new(20);
     let mut cases = vec![];
     for _ in 0..count {
-        let mut fields = any_sheet(random).fields().to_vec();
+        let mut fields = any_sheet(random).fields();
         for _ in 0..random.below(3) {
             let (i, j) = (random.below(fields.len()), random.below(fields.len()));
             match random.below(4) {
@@ -71,7 +78,7 @@ fn damaged_together(count: usize) -> Vec<Case> {
                 2 => fields.insert(i, fields[j].clone()),
                 _ => {
                     let k = random.below(fields[i].len().min(4));
-                    fields[i][k] = random.pick(&[0, 1, 2, 3, 4, 5, 12, 36, 121, 255]);
+                    fields[i][k] = random.pick(&[0, 1, 2, 3, 4, 5, 6, 12, 36, 121, 255]);
                 }
             }
         }
@@ -97,6 +104,6 @@ fn damaged_sheets() {
     for (sheet, query) in [octant_everywhere(), field_lengths(), damaged_together(100_000)].concat() {
         tally.compare(&sheet, query);
     }
-    let numbers = [1, 2, 3, 11, 12, 13, 15, 16, 17, 18, 20, 21, 22, 23, 24];
-    tally.report("damaged sheets", 150_000, numbers);
+    let numbers = [1, 2, 3, 11, 12, 13, 15, 16, 17, 18, 19, 20, 21, 22, 23, 24];
+    tally.report("damaged sheets", 250_000, numbers);
 }

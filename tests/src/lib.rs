@@ -22,6 +22,8 @@ mod damage;
 #[cfg(test)]
 mod feed;
 #[cfg(test)]
+mod importer;
+#[cfg(test)]
 mod known_point;
 #[cfg(test)]
 mod looked;
@@ -31,6 +33,8 @@ mod multiplications;
 mod outlines;
 #[cfg(test)]
 mod program;
+#[cfg(test)]
+mod second_point;
 #[cfg(test)]
 mod winding;
 #[cfg(test)]

@@ -79,3 +79,28 @@ pub fn looked(sheet: &[u8], [x, y, z]: Point) -> u32 {
 pub fn single(sheet: &[u8], query: Point) -> Single {
     Single { answer: judge(sheet, query), sum: sum(sheet, query), looked: looked(sheet, query) }
 }
+
+extern "C" {
+    fn spg_choose_number(
+        sheet: *const u8,
+        sheet_len: usize,
+        candidates: *const u8,
+        candidates_len: usize,
+    ) -> u32;
+    fn spg_choose_place(
+        sheet: *const u8,
+        sheet_len: usize,
+        candidates: *const u8,
+        candidates_len: usize,
+    ) -> usize;
+}
+
+/// Document 02's P4: the earliest candidate that passes. There is no call for the count, which is 0.
+pub fn choose(sheet: &[u8], candidates: &[u8]) -> Answer {
+    let (c, c_len) = (candidates.as_ptr(), candidates.len());
+    Answer {
+        number: unsafe { spg_choose_number(sheet.as_ptr(), sheet.len(), c, c_len) },
+        place: unsafe { spg_choose_place(sheet.as_ptr(), sheet.len(), c, c_len) },
+        count: 0,
+    }
+}

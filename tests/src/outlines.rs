@@ -2,7 +2,7 @@
 
 use crate::compare::Tally;
 use crate::random::Random;
-use crate::sheet::Sheet;
+use crate::sheet::{points_bytes, Sheet};
 use crate::{reference, Point};
 
 const LIMIT: i32 = 1_048_576;
@@ -65,17 +65,31 @@ fn ring(random: &mut Random, source: Source, n: usize) -> Vec<Point> {
     ring
 }
 
-/// The sheet of an outline and a known point, and queries to it.
+/// The sheet of an outline and a known point, with a second one or none, and queries to it. The first
+/// query is opposite the known point.
 pub fn sheet_and_queries(
     random: &mut Random,
     source: Source,
     most: usize,
     count: usize,
 ) -> (Vec<u8>, Vec<Point>) {
+    let (mut sheet, queries) = plain_and_queries(random, source, most, count);
+    sheet.second = second_point(random, source, &sheet);
+    (sheet.bytes(), queries)
+}
+
+/// The same without a second point.
+pub fn plain_and_queries(
+    random: &mut Random,
+    source: Source,
+    most: usize,
+    count: usize,
+) -> (Sheet, Vec<Point>) {
     let vertices = outline(random, source, most);
     let known = known_point(random, source, &vertices);
-    let queries = (0..count).map(|_| query(random, source, known, &vertices)).collect();
-    (Sheet::new(known, &vertices).bytes(), queries)
+    let mut queries: Vec<Point> = (0..count).map(|_| query(random, source, known, &vertices)).collect();
+    queries.iter_mut().take(1).for_each(|first| *first = sum(-1, known, 0, known));
+    (Sheet::new(known, &vertices), queries)
 }
 
 /// A ring as it is, walked out and back, walked twice, two rings joined by a corridor, or a ring
@@ -122,6 +136,19 @@ fn known_point(random: &mut Random, source: Source, vertices: &[Point]) -> Point
     known
 }
 
+/// None, or a point that passes if a few attempts find one; now and then one that does not.
+fn second_point(random: &mut Random, source: Source, sheet: &Sheet) -> Option<Point> {
+    if random.once_in(2) {
+        return None;
+    }
+    if random.once_in(16) {
+        return Some(query(random, source, sheet.known, &sheet.vertices));
+    }
+    let candidates: Vec<Point> = (0..12).map(|_| point(random, source)).collect();
+    let chosen = reference::choose(&sheet.bytes(), &points_bytes(&candidates));
+    (chosen.number == 0).then(|| candidates[chosen.place])
+}
+
 /// A query that is likely to meet something: see the comments.
 pub fn query(random: &mut Random, source: Source, known: Point, vertices: &[Point]) -> Point {
     let i = random.below(vertices.len());
@@ -162,7 +189,7 @@ fn small_coordinates() {
     for (seed, size) in [(1, 1), (2, 2), (3, 3), (4, 5), (5, 9)] {
         compare_family(&mut tally, seed, Source::Within(size), 9, 5_000);
     }
-    tally.report("small coordinates", 500_000, [1, 2, 3, 12, 13, 14, 15, 16, 17, 18]);
+    tally.report("small coordinates", 500_000, [1, 2, 3, 12, 13, 14, 15, 16, 17, 18, 19]);
 }
 
 #[test]

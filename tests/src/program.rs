@@ -2,7 +2,7 @@
 
 use crate::host::{command, output_of, repository, run_in_pieces, Folder};
 use crate::random::Random;
-use crate::sheet::{octant, points_bytes, Sheet};
+use crate::sheet::{octant, octant_pair, points_bytes, Sheet};
 use crate::{reference, Point};
 use std::collections::BTreeSet;
 use std::fs::{self, File};
@@ -33,8 +33,13 @@ fn agrees(folder: &Folder, sheet: Option<&[u8]>, input: &[u8]) -> String {
     printed
 }
 
-/// A sheet for each refusal, the octant with one thing wrong.
+/// A sheet for each refusal, the octant with one thing wrong, also with its second point.
 pub fn refused_sheets() -> Vec<Vec<u8>> {
+    [refused_plain_sheets(), vec![octant().with_second([0, 0, 0]).bytes()]].concat()
+}
+
+/// Those without a second point.
+pub fn refused_plain_sheets() -> Vec<Vec<u8>> {
     let change = |what: fn(&mut Sheet)| {
         let mut sheet = octant();
         what(&mut sheet);
@@ -74,11 +79,21 @@ fn program_refusals() {
             let printed = agrees(&folder, Some(&sheet), input);
             numbers.insert(printed.split(' ').next().unwrap().parse::<u32>().unwrap());
         }
-        assert_eq!(numbers.into_iter().collect::<Vec<_>>(), [11, 12, 13, 14, 15, 16, 20, 21, 22, 23, 24]);
+        assert_eq!(numbers.into_iter().collect::<Vec<_>>(), [11, 12, 13, 14, 15, 16, 19, 20, 21, 22, 23, 24]);
     }
 }
 
-/// The longest sheet, and files that are longer: the program reads 49,305 bytes.
+/// A query opposite the known point is judged from the second.
+#[test]
+fn program_second_point() {
+    let folder = Folder::new("second");
+    let printed = agrees(&folder, Some(&octant_pair().bytes()), &points_bytes(&K2_K3_K5_K8));
+    assert_eq!(printed, "1 0 0\n3 0 0\n2 0 1\n2 0 1\n");
+    agrees(&folder, Some(&octant_pair().bytes()), &random_input(44, 2_000));
+}
+
+/// The longest sheets without a second point and with one, and files that are longer: the program
+/// reads 49,320 bytes.
 #[test]
 fn program_long_files() {
     let folder = Folder::new("long");
@@ -86,14 +101,25 @@ fn program_long_files() {
     sheet.name = vec![0x41; 120];
     sheet.vertices = (0..4096).map(|i| [(i % 2) * 7, 1, i + 1]).collect();
     sheet.known = [500, 1, 3];
-    let longest = sheet.bytes();
-    assert_eq!(longest.len(), 49_304);
-    let input = random_input(40, 50);
-    assert_eq!(agrees(&folder, Some(&longest), &input).lines().count(), 50);
+    let plain = sheet.bytes();
+    let candidates: Vec<Point> = (1..100).map(|k| [500 + k, 1, 3]).collect();
+    let chosen = reference::choose(&plain, &points_bytes(&candidates));
+    assert_eq!(chosen.number, 0);
+    let longest = sheet.with_second(candidates[chosen.place]).bytes();
+    assert_eq!((plain.len(), longest.len()), (49_304, 49_319));
+    let input = [points_bytes(&[[-500, -1, -3]]), random_input(40, 49)].concat();
+    assert!(agrees(&folder, Some(&plain), &input).starts_with("18 0 0\n"));
+    assert!(!agrees(&folder, Some(&longest), &input).contains("18 0 0\n"));
     for more in [1, 2, 1_000, 1_000_000] {
-        let long = [longest.clone(), vec![5; more]].concat();
-        assert_eq!(agrees(&folder, Some(&long), &input), "24 49304 0\n");
-        assert_eq!(agrees(&folder, Some(&long[4..]), &input), "21 0 0\n");
+        for (whole, place) in [(&plain, 49_304), (&longest, 49_319)] {
+            let long = [whole.clone(), vec![5; more]].concat();
+            assert_eq!(agrees(&folder, Some(&long), &input), format!("24 {place} 0\n"));
+            assert_eq!(agrees(&folder, Some(&long[4..]), &input), "21 0 0\n");
+        }
+        let sixes = |whole: &Vec<u8>| [whole.clone(), vec![6; more]].concat();
+        let cut = if more < 3 { 20 } else { 22 };
+        assert_eq!(agrees(&folder, Some(&sixes(&plain)), &input), format!("{cut} 49304 0\n"));
+        assert_eq!(agrees(&folder, Some(&sixes(&longest)), &input), "24 49319 0\n");
     }
 }
 

@@ -9,23 +9,32 @@ pub struct Sheet {
     pub name: Vec<u8>,
     pub known: Point,
     pub vertices: Vec<Point>,
+    /// Document 02, P4: none writes no field.
+    pub second: Option<Point>,
 }
 
 impl Sheet {
-    /// Zone 7, UTF-8, name "A": what document 01 gives its octant.
+    /// Zone 7, UTF-8, name "A": what document 01 gives its octant. No second point.
     pub fn new(known: Point, vertices: &[Point]) -> Sheet {
-        Sheet { zone: 7, charset: 1, name: b"A".to_vec(), known, vertices: vertices.to_vec() }
+        let (name, vertices) = (b"A".to_vec(), vertices.to_vec());
+        Sheet { zone: 7, charset: 1, name, known, vertices, second: None }
     }
 
-    /// The five fields, each still on its own.
-    pub fn fields(&self) -> [Vec<u8>; 5] {
-        [
+    pub fn with_second(self, second: Point) -> Sheet {
+        Sheet { second: Some(second), ..self }
+    }
+
+    /// The fields, each still on its own: five, or six with a second point.
+    pub fn fields(&self) -> Vec<Vec<u8>> {
+        let mut fields = vec![
             field(1, &self.zone.to_be_bytes()),
             field(2, &[self.charset]),
             field(3, &self.name),
             field(4, &point_bytes(self.known)),
             field(5, &points_bytes(&self.vertices)),
-        ]
+        ];
+        fields.extend(self.second.map(|second| field(6, &point_bytes(second))));
+        fields
     }
 
     pub fn bytes(&self) -> Vec<u8> {
@@ -57,4 +66,9 @@ pub const OCTANT: [Point; 3] = [[1, 0, 0], [0, 1, 0], [0, 0, 1]];
 /// Document 01's octant: 69 bytes.
 pub fn octant() -> Sheet {
     Sheet::new([1, 1, 1], &OCTANT)
+}
+
+/// The octant with a second point that passes: 84 bytes.
+pub fn octant_pair() -> Sheet {
+    octant().with_second([1, 1, 2])
 }

@@ -1,10 +1,11 @@
-//! Document 02's P13: the feed writes the bytes that the benchmark's yardsticks write.
+//! Document 02's P13: the feed writes the bytes that the benchmark's yardsticks write. They know one
+//! known point.
 
 use crate::compare::Tally;
 use crate::islands::{islands, queries, EXTENTS, QUERIES, SIDES};
 use crate::library;
-use crate::outlines::{sheet_and_queries, Source};
-use crate::program::refused_sheets;
+use crate::outlines::{plain_and_queries, Source};
+use crate::program::refused_plain_sheets;
 use crate::random::Random;
 use crate::sheet::{octant, points_bytes};
 use spargolutta_yardstick::{hoisted, literal, Answer};
@@ -59,8 +60,8 @@ fn coincidences_alike() {
     for (seed, source) in families.enumerate() {
         let random = &mut Random::new(90 + seed as u64);
         for most in (0..1_000).map(|k| if k % 50 == 0 { 200 } else { 12 }) {
-            let (sheet, asked) = sheet_and_queries(random, source, most, 40);
-            let queries = points_bytes(&asked);
+            let (sheet, asked) = plain_and_queries(random, source, most, 40);
+            let (sheet, queries) = (sheet.bytes(), points_bytes(&asked));
             if library::number(&sheet, [0; 3]) == 17 {
                 compare(&mut tally, &sheet, &queries);
             } else {
@@ -74,7 +75,7 @@ fn coincidences_alike() {
 #[test]
 fn refusals_alike() {
     let queries = points_bytes(&[[3, 2, 1], [0, 0, 0], [-1, -1, -1]]);
-    for sheet in [vec![octant().bytes(), vec![]], refused_sheets()].concat() {
+    for sheet in [vec![octant().bytes(), vec![]], refused_plain_sheets()].concat() {
         for length in [0, 12, 35, 36] {
             for room in [0, 11, 12, 35, 36, 50] {
                 alike(&sheet, &queries[..length], &mut vec![0x5a; room]);

@@ -1,5 +1,5 @@
 -- The proofs of specs/Claims, in its order: feed-equals-single, refused-writes-nothing. Assumes nothing.
-use mathlib.Core.Path.{_≡_, refl}
+use mathlib.Core.Path.{_≡_, refl, ap}
 use mathlib.Core.List.{List}
 use Prim.Native.Nat.{ℕ}
 use native.Mathlib.Omega.{arith}
@@ -10,9 +10,11 @@ use Rattle.polygon.specs.declared.answer.Answer.the-variants.{Done}
 use Rattle.polygon.specs.declared.answer.Check.{Check}
 use Rattle.polygon.specs.declared.answer.Check.the-variants.{Passed, Failed}
 use Rattle.polygon.specs.Answer.{answerAfter}
-use Rattle.batch.specs.Feed.{feedCheck, feedOf, fedTo}
+use Rattle.polygon.specs.Verdict.{answerOf}
+use Rattle.batch.specs.Feed.{feedCheck, feedOf, noSecond, fedTo}
 use Rattle.batch.specs.Claims.{FeedEqualsSingle, RefusedWritesNothing}
-use Rattle.batch.proofs.Laws.Fed.{fed-results}
+use Rattle.batch.proofs.Laws.From.{from-none, optional-none}
+use Rattle.batch.proofs.Laws.Fed.{fed-results, fed-same}
 use Rattle.batch.proofs.Laws.Ends.{feed-passed, feed-refused, feed-done}
 
 -- A feed succeeds only if its checks pass.
@@ -25,8 +27,10 @@ unfolding feedOf
 feed-equals-single limit vs X queries buffer e =
     let ok = done-passed (feedCheck limit vs X queries (length buffer)) e in
     let checked = feed-passed limit vs X queries (length buffer) ok in
+    let accepted = optional-none limit vs X (checked .0) in
     rw (feed-done limit vs X queries buffer ok .filled)
-    (fed-results limit vs X queries buffer (checked .1) (checked .0))
+    (fed-same (λ P. ap (λ (Q : Point). answerOf limit vs Q P) (from-none X P))
+    (fed-results limit vs X noSecond queries buffer (checked .1) accepted))
 
 module _ (limit : ℕ) (vs : List ℤ) (X : Point) (queries buffer : List ℕ) where
   unwritten : (c : Check) → feedCheck limit vs X queries (length buffer) ≡ c →

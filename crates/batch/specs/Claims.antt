@@ -22,17 +22,17 @@ pub record Encodes (b : List ℕ) (at : ℕ) (a : Answer) : Type 0 where
   pub place : wordAt b (at + 4) ≡ placeOf a
   pub count : wordAt b (at + 8) ≡ countOf a
 
--- The result buffer after a feed that succeeds: the single call's answers in order, and every other byte as it was.
-pub record Fed (limit : ℕ) (vs : List ℤ) (X : Point) (queries buffer after : List ℕ) : Type 0 where
+-- The result buffer after a feed that succeeds: a single call's answers in order, and every other byte as it was.
+pub record Fed (single : Point → Answer) (queries buffer after : List ℕ) : Type 0 where
   pub same-length : length after ≡ length buffer
-  pub each : (i : ℕ) → i < queryCount queries → Encodes after (i * 12) (answerOf limit vs X (queryAt queries i))
+  pub each : (i : ℕ) → i < queryCount queries → Encodes after (i * 12) (single (queryAt queries i))
   pub rest : drop (neededFor queries) after ≡ drop (neededFor queries) buffer
 
 abbrev pub FeedEqualsSingle : Type 0
 FeedEqualsSingle =
     (limit : ℕ) (vs : List ℤ) (X : Point) (queries buffer : List ℕ) →
     feedOf limit vs X queries (length buffer) ≡ Done 0 →
-    Fed limit vs X queries buffer (fedTo limit vs X queries buffer)
+    Fed (answerOf limit vs X) queries buffer (fedTo limit vs X queries buffer)
 
 abbrev pub RefusedWritesNothing : Type 0
 RefusedWritesNothing =

@@ -1,12 +1,13 @@
 -- Document 02, P1: a feed (any number of queries to one polygon, in one call).
 -- Defined, in order: queryCount, queryAt, neededFor, resultBytes; sizeCheck (26, 27), feedCheck (26, 27, 10 to 16),
--- feedOf (the answer); resultOf (one query's result), resultsBytes, feedBytes (all of them), fedTo (the result buffer
--- after the call). Queries and results are numbered from 0. Assumes nothing.
+-- feedOf (the answer); noSecond, resultOf (one query's result), resultsBytes, feedBytes (all of them), fedTo (the
+-- result buffer after the call). Queries and results are numbered from 0. A result is by the known point or, where the
+-- query is opposite that, by the second one (document 02, P4); fedTo is of a feed that has none. Assumes nothing.
 use mathlib.Core.Bool.{not}
 use mathlib.Core.List.{List, [], _++_}
 use Prim.Native.Nat.{ℕ, zero, suc, _*_, _/_, _%_}
 use lib.Dec.{eqb, ltb}
-use lib.IntN.{ℤ}
+use lib.IntN.{ℤ, pos}
 use lib.ListN.{length}
 use Rattle.sphere.specs.declared.point.Point.{Point}
 use Rattle.big_endian.specs.Bytes.{pointAt, wordBytes}
@@ -16,6 +17,7 @@ use Rattle.polygon.specs.declared.answer.Check.{Check}
 use Rattle.polygon.specs.Answer.{numberOf, placeOf, countOf, answerAfter}
 use Rattle.polygon.specs.Checks.{_then_, failsHere, failsIf, acceptCheck}
 use Rattle.polygon.specs.Verdict.{answerOf}
+use Rattle.polygon.specs.Pair.{judgeFrom}
 use Rattle.batch.specs.Buffer.{bufferAfter}
 
 -- ---- twelve bytes a query, twelve bytes a result
@@ -49,19 +51,24 @@ feedOf limit vs X queries room = answerAfter (feedCheck limit vs X queries room)
 
 -- ---- the results
 
--- The result of query i: what the single call answers.
-abbrev pub resultOf : ℕ → List ℤ → Point → List ℕ → ℕ → List ℕ
-resultOf limit vs X queries i = resultBytes (answerOf limit vs X (queryAt queries i))
+-- No second point: all zero.
+abbrev pub noSecond : Point
+noSecond = record { x = pos 0; y = pos 0; z = pos 0 }
+
+-- The result of query i: what the single call answers, from the point X or the second point Y.
+abbrev pub resultOf : ℕ → List ℤ → Point → Point → List ℕ → ℕ → List ℕ
+resultOf limit vs X Y queries i =
+    resultBytes (answerOf limit vs (judgeFrom X Y (queryAt queries i)) (queryAt queries i))
 
 -- The first n of them, in order.
 unfoldable pub resultsBytes : (ℕ → List ℕ) → ℕ → List ℕ
 resultsBytes result zero = []
 resultsBytes result (suc n) = resultsBytes result n ++ result n
 
-unfoldable pub feedBytes : ℕ → List ℤ → Point → List ℕ → List ℕ
-feedBytes limit vs X queries = resultsBytes (resultOf limit vs X queries) (queryCount queries)
+unfoldable pub feedBytes : ℕ → List ℤ → Point → Point → List ℕ → List ℕ
+feedBytes limit vs X Y queries = resultsBytes (resultOf limit vs X Y queries) (queryCount queries)
 
 -- The result buffer after the call.
 unfoldable pub fedTo : ℕ → List ℤ → Point → List ℕ → List ℕ → List ℕ
 fedTo limit vs X queries buffer =
-    bufferAfter (feedCheck limit vs X queries (length buffer)) (feedBytes limit vs X queries) buffer
+    bufferAfter (feedCheck limit vs X queries (length buffer)) (feedBytes limit vs X noSecond queries) buffer

@@ -1,6 +1,7 @@
 // A whole feed in one call: document 02's P1.
 // Here, in order: size_check (26, 27), feed_check (26, 27, 10 to 16), store_result, judge_one, judge_each, judge_all,
-// judge_feed. Nothing of the polygon is copied for a query, and its boxes are built once. Assumes nothing.
+// judge_feed. Nothing of the polygon is copied for a query, and its boxes are built once. A second point that is all
+// zero is none (document 02, P4). Assumes nothing.
 ghost use mathlib.Core.Path.{_≡_};
 ghost use Prim.Native.Nat.{_+_, _*_, _≤_, _<_};
 ghost use lib.ListN.{length};
@@ -8,14 +9,14 @@ ghost use lib.Seq.{sets};
 ghost use Rattle.sphere.specs.Point.{coarse};
 ghost use Rattle.polygon.specs.declared.answer.Check.the-variants.{Passed};
 ghost use Rattle.polygon.specs.Answer.{placeOf};
-ghost use Rattle.polygon.specs.Checks.{acceptCheck};
+ghost use Rattle.polygon.specs.Pair.{optionalCheck};
 ghost use Rattle.judging.specs.Boxes.{Boxed};
 ghost use Rattle.batch.specs.Feed.{queryCount, neededFor, resultBytes, resultOf, feedBytes, sizeCheck};
 ghost use Rattle.batch.specs.Feed.{feedCheck, feedOf, fedTo};
 use big_endian::read;
 use big_endian::store;
 use judging::boxes;
-use judging::judge::judge_boxed;
+use judging::pair::judge_called_boxed;
 use polygon::answer;
 use polygon::answer::Answer;
 use polygon::answer::Check;
@@ -62,48 +63,56 @@ fn judge_one(
     vertices: &[i32],
     boxes: &[i32],
     known: Point,
+    second: Point,
     queries: &[u8],
     i: usize,
     results: &mut [u8],
 )
-    requires { ⌜ (acceptCheck coarse (now vertices) known ≡ Passed) × Boxed (now vertices) (now boxes) ⌝ }
+    requires { ⌜ (optionalCheck coarse (now vertices) known second ≡ Passed) × Boxed (now vertices) (now boxes) ⌝ }
     requires { ⌜ i < queryCount (now queries) ⌝ }
     requires { ⌜ neededFor (now queries) ≤ length (now results) ⌝ }
     ensures { λ _. ⌜ now (results .exit) ≡ sets (now (results .entry)) (i * 12)
-        (resultOf coarse (now (vertices .entry)) known (now (queries .entry)) i) ⌝ }
+        (resultOf coarse (now (vertices .entry)) known second (now (queries .entry)) i) ⌝ }
 {
     let at = i * 12;
-    let judgement = judge_boxed(vertices, boxes, known, read::point_at(queries, at));
+    let judgement = judge_called_boxed(vertices, boxes, known, second, read::point_at(queries, at));
     let answer = judgement.answer;
     store_result(results, at, answer)
 }
 
 // Every query of a feed, by the boxes beside the polygon.
-fn judge_each(vertices: &[i32], boxes: &[i32], known: Point, queries: &[u8], results: &mut [u8])
-    requires { ⌜ (acceptCheck coarse (now vertices) known ≡ Passed) × Boxed (now vertices) (now boxes) ⌝ }
+fn judge_each(
+    vertices: &[i32],
+    boxes: &[i32],
+    known: Point,
+    second: Point,
+    queries: &[u8],
+    results: &mut [u8],
+)
+    requires { ⌜ (optionalCheck coarse (now vertices) known second ≡ Passed) × Boxed (now vertices) (now boxes) ⌝ }
     requires { ⌜ neededFor (now queries) ≤ length (now results) ⌝ }
     ensures { λ _. ⌜ now (results .exit) ≡ sets (now (results .entry)) 0
-        (feedBytes coarse (now (vertices .entry)) known (now (queries .entry))) ⌝ }
+        (feedBytes coarse (now (vertices .entry)) known second (now (queries .entry))) ⌝ }
 {
     let n = queries.len() / 12;
     for i in 0..n {
-        judge_one(vertices, boxes, known, queries, i, results);
+        judge_one(vertices, boxes, known, second, queries, i, results);
     }
 }
 
 // Every query of a feed whose checks have passed. The boxes are built once.
-pub fn judge_all(vertices: &[i32], known: Point, queries: &[u8], results: &mut [u8])
-    requires { ⌜ acceptCheck coarse (now vertices) known ≡ Passed ⌝ }
+pub fn judge_all(vertices: &[i32], known: Point, second: Point, queries: &[u8], results: &mut [u8])
+    requires { ⌜ optionalCheck coarse (now vertices) known second ≡ Passed ⌝ }
     requires { ⌜ neededFor (now queries) ≤ length (now results) ⌝ }
     ensures { λ _. ⌜ now (results .exit) ≡ sets (now (results .entry)) 0
-        (feedBytes coarse (now (vertices .entry)) known (now (queries .entry))) ⌝ }
+        (feedBytes coarse (now (vertices .entry)) known second (now (queries .entry))) ⌝ }
 {
     let mut boxes = [0i32; 768];
     boxes::fill(vertices, &mut boxes);
-    judge_each(vertices, &boxes, known, queries, results)
+    judge_each(vertices, &boxes, known, second, queries, results)
 }
 
-// The feed: any numbers and bytes. A refusal changes no byte of the results.
+// The feed from one known point: any numbers and bytes. A refusal changes no byte of the results.
 pub fn judge_feed(vertices: &[i32], known: Point, queries: &[u8], results: &mut [u8]) -> Answer
     ensures { λ r. ⌜ r ≡ feedOf coarse (now (vertices .entry)) known (now (queries .entry))
         (length (now (results .entry))) ⌝ }
@@ -114,6 +123,7 @@ pub fn judge_feed(vertices: &[i32], known: Point, queries: &[u8], results: &mut 
         Check::Passed => {}
         Check::Failed(number, place) => return Answer::Refused(number, place),
     }
-    judge_all(vertices, known, queries, results);
+    let none = Point { x: 0, y: 0, z: 0 };
+    judge_all(vertices, known, none, queries, results);
     Answer::Done(0)
 }

@@ -1,5 +1,5 @@
 // What the charts are made of.
-// Here, in order: LIMIT, OVER, point, inner, octant. Assumes nothing.
+// Here, in order: LIMIT, OVER, point, inner, beside, none, octant. Assumes nothing.
 use sphere::point::Point;
 
 // The limit of the grid, and the first number beyond it.
@@ -14,6 +14,15 @@ pub(crate) fn point(x: i64, y: i64, z: i64) -> Point {
 // The known point of the octant.
 pub(crate) fn inner() -> Point {
     point(1, 1, 1)
+}
+
+// A second point that passes beside it, and none.
+pub(crate) fn beside() -> Point {
+    point(1, 1, 2)
+}
+
+pub(crate) fn none() -> Point {
+    point(0, 0, 0)
 }
 
 pub(crate) fn octant() -> [i32; 9] {

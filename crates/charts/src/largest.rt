@@ -1,5 +1,6 @@
-// The largest sheet: a name of 120 bytes and the ring's 4,096 vertices, 32 + 120 + 49,152 bytes. Its last field
-// begins at 11 + 123 + 15.
+// The largest sheet: a name of 120 bytes, the ring's 4,096 vertices and a second point, 32 + 120 + 49,152 + 15 bytes.
+// Its field of vertices begins at 11 + 123 + 15. The planes of the ring's edges are 2x = z, 2x = -z, 2y = z and
+// 2y = -z, so the second point (1, 0, 8) is off them, and inside.
 // Here, in order: write_ring, is_front, write_back, read_ring, run. Assumes nothing of its own.
 ghost use Prim.Native.Nat.{_≤_};
 ghost use lib.ListN.{length};
@@ -25,6 +26,7 @@ fn write_ring(label: &[u8], kept: &[u8], numbers: &[i32], buffer: &mut [u8], roo
         &[65; 120],
         point(0, 0, 1),
         vertices,
+        point(1, 0, 8),
         buffer,
         room,
     );
@@ -53,20 +55,21 @@ fn write_back(sheet: Sheet, vertices: &[i32; 12288], bytes: &[u8]) {
         &[65; 120],
         sheet.known,
         vertices,
+        sheet.second,
         &mut again,
     );
-    lines::print_same(b"sheet_49304_back", check::same(&again, bytes))
+    lines::print_same(b"sheet_49319_back", check::same(&again, bytes))
 }
 
 // What is read has the vertices that were written.
 fn read_ring(bytes: &[u8], numbers: &[i32])
-    requires { ⌜ 49304 ≤ length (now bytes) ⌝ }
+    requires { ⌜ 49319 ≤ length (now bytes) ⌝ }
     requires { ⌜ 12288 ≤ length (now numbers) ⌝ }
 {
-    let written = &bytes[..49304];
+    let written = &bytes[..49319];
     let mut vertices = [0i32; 12288];
     let sheet = read::load(written, &mut vertices);
-    lines::print_same(b"sheet_49304_vertices", is_front(&vertices, numbers));
+    lines::print_same(b"sheet_49319_vertices", is_front(&vertices, numbers));
     write_back(sheet, &vertices, bytes)
 }
 
@@ -74,27 +77,29 @@ pub(crate) fn run() {
     let numbers = ring::ring();
     let mut buffer = writing::blank();
     write_ring(
-        b"write_room_49303",
-        b"write_room_49303_kept",
+        b"write_room_49318",
+        b"write_room_49318_kept",
         &numbers,
         &mut buffer,
-        49303,
+        49318,
     );
     write_ring(
-        b"write_49304",
-        b"write_49304_kept",
+        b"write_49319",
+        b"write_49319_kept",
         &numbers,
         &mut buffer,
-        49305,
+        49320,
     );
     reading::print_parts(
-        b"sheet_49304",
-        b"sheet_49304_parts",
-        b"sheet_49304_name",
+        b"sheet_49319",
+        b"sheet_49319_parts",
+        b"sheet_49319_name",
         &buffer,
-        49304,
+        49319,
     );
     read_ring(&buffer, &numbers);
+    reading::print_read(b"sheet_49304", &buffer, 49304);
     reading::print_read(b"cut_49303", &buffer, 49303);
-    reading::print_read(b"rest_49305", &buffer, 49305);
+    reading::print_read(b"cut_49318", &buffer, 49318);
+    reading::print_read(b"rest_49320", &buffer, 49320);
 }

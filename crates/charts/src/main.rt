@@ -1,13 +1,13 @@
 // Runs document 01's charts through the compiled library and prints a line for each: `label number place count`. The
-// file `stdout` was worked out from document 01 and not from a run; where that is not plain, a comment beside the
-// case says how.
+// file `stdout` was worked out from documents 01 and 02 and not from a run; where that is not plain, a comment beside
+// the case says how.
 //
 // By lists: the charts K1 to K14 and the one after 003 (`octant`), the limits of the grid (`limits`), which place is
-// given and which of several refusals (`order`), and the number of numbers (`sizes`). By sheets: `reading`,
-// `writing` and the largest sheet (`largest`). Lines `.._parts` and `.._name` give what reading hands back: zone
-// number, character set and number of vertices; where the name stands, its length and its first byte. Lines that end
-// in `yes` say that bytes or numbers were compared and are the same. Proved: each function is safe and ends. Assumes
-// what `libc` states of C's write, and nothing else.
+// given and which of several refusals (`order`), and the number of numbers (`sizes`). By sheets: `reading`, `writing`,
+// the largest sheet (`largest`), and document 02's second point (`second`). Lines `.._parts` and `.._name` give what
+// reading hands back: zone number, character set and number of vertices; where the name stands, its length and its
+// first byte. Lines that end in `yes` say that bytes or numbers were compared and are the same. Proved: each function
+// is safe and ends. Assumes what `libc` states of C's write, and nothing else.
 mod given;
 mod largest;
 mod limits;
@@ -16,6 +16,7 @@ mod octant;
 mod order;
 mod reading;
 mod ring;
+mod second;
 mod sizes;
 mod writing;
 
@@ -27,4 +28,5 @@ fn main() {
     reading::run();
     writing::run();
     largest::run();
+    second::run();
 }

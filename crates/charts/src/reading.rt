@@ -38,7 +38,7 @@ fn changed(sheet: [u8; 70], at: usize, byte: u8) -> [u8; 70]
 }
 
 // What reading hands back of the first n bytes.
-fn read_front(bytes: &[u8], n: usize) -> Sheet
+pub(crate) fn read_front(bytes: &[u8], n: usize) -> Sheet
     requires { ⌜ n ≤ length (now bytes) ⌝ }
 {
     read::read(&bytes[..n])

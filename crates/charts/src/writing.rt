@@ -1,7 +1,7 @@
 // Writing the octant's sheet, and what is not written. After each call the bytes that had to stay are compared: all
 // of them after a refusal, those after the sheet after a success. Here, in order: blank, is_blank_from,
-// is_rest_kept, both, write_front, try_write, try_octant, try_known, try_list, octant_bytes, successes, rooms,
-// heads, lists, known_points, run. Assumes nothing of its own.
+// is_rest_kept, both, write_front, try_write, try_octant, try_known, try_second, try_list, octant_bytes, successes,
+// rooms, heads, lists, known_points, second_points, run. Assumes nothing of its own.
 ghost use mathlib.Core.Path.{_≡_};
 ghost use Prim.Native.Nat.{_≤_};
 ghost use lib.ListN.{length};
@@ -15,10 +15,10 @@ use sheet::write;
 use sphere::point::Point;
 
 // One byte more than the longest sheet, and no byte that a sheet of ours has.
-pub(crate) fn blank() -> [u8; 49305]
-    ensures { λ r. ⌜ 49305 ≡ length r ⌝ }
+pub(crate) fn blank() -> [u8; 49320]
+    ensures { λ r. ⌜ 49320 ≡ length r ⌝ }
 {
-    [238; 49305]
+    [238; 49320]
 }
 
 // Whether the bytes from a place on are those of `blank`.
@@ -55,12 +55,21 @@ pub(crate) fn write_front(
     name: &[u8],
     known: Point,
     vertices: &[i32],
+    second: Point,
     buffer: &mut [u8],
     room: usize,
 ) -> Answer
     requires { ⌜ room ≤ length (now buffer) ⌝ }
 {
-    write::write(zone, charset, name, known, vertices, &mut buffer[..room])
+    write::write(
+        zone,
+        charset,
+        name,
+        known,
+        vertices,
+        second,
+        &mut buffer[..room],
+    )
 }
 
 // One case. Whether the bytes stayed, here and in the cases before it.
@@ -71,19 +80,20 @@ fn try_write(
     name: &[u8],
     known: Point,
     vertices: &[i32],
+    second: Point,
     room: usize,
 ) -> bool
-    requires { ⌜ room ≤ 49305 ⌝ }
+    requires { ⌜ room ≤ 49320 ⌝ }
 {
     let mut buffer = blank();
-    let written = write_front(7, charset, name, known, vertices, &mut buffer, room);
+    let written = write_front(7, charset, name, known, vertices, second, &mut buffer, room);
     lines::print_answer(label, written);
     both(kept, is_rest_kept(written, &buffer))
 }
 
 // The octant under another head, with another known point, and another list in its place.
 fn try_octant(kept: bool, label: &[u8], charset: u32, name: &[u8], room: usize) -> bool
-    requires { ⌜ room ≤ 49305 ⌝ }
+    requires { ⌜ room ≤ 49320 ⌝ }
 {
     try_write(
         kept,
@@ -92,24 +102,67 @@ fn try_octant(kept: bool, label: &[u8], charset: u32, name: &[u8], room: usize) 
         name,
         given::inner(),
         &given::octant(),
+        given::none(),
         room,
     )
 }
 
 fn try_known(kept: bool, label: &[u8], x: i64, y: i64, z: i64, room: usize) -> bool
-    requires { ⌜ room ≤ 49305 ⌝ }
+    requires { ⌜ room ≤ 49320 ⌝ }
 {
-    try_write(kept, label, 1, b"A", point(x, y, z), &given::octant(), room)
+    try_write(
+        kept,
+        label,
+        1,
+        b"A",
+        point(x, y, z),
+        &given::octant(),
+        given::none(),
+        room,
+    )
+}
+
+// The octant with a second point.
+fn try_second(kept: bool, label: &[u8], x: i64, y: i64, z: i64, room: usize) -> bool
+    requires { ⌜ room ≤ 49320 ⌝ }
+{
+    try_write(
+        kept,
+        label,
+        1,
+        b"A",
+        given::inner(),
+        &given::octant(),
+        point(x, y, z),
+        room,
+    )
 }
 
 fn try_list(kept: bool, label: &[u8], vertices: &[i32]) -> bool {
-    try_write(kept, label, 1, b"A", given::inner(), vertices, 69)
+    try_write(
+        kept,
+        label,
+        1,
+        b"A",
+        given::inner(),
+        vertices,
+        given::none(),
+        69,
+    )
 }
 
 // The bytes themselves. The buffer has one byte more, 0 like that of `octant_sheet`.
 fn octant_bytes() {
     let mut buffer = [0u8; 70];
-    write::write(7, 1, b"A", given::inner(), &given::octant(), &mut buffer);
+    write::write(
+        7,
+        1,
+        b"A",
+        given::inner(),
+        &given::octant(),
+        given::none(),
+        &mut buffer,
+    );
     lines::print_same(
         b"write_69_bytes",
         check::same(&buffer, &reading::octant_sheet()),
@@ -118,7 +171,7 @@ fn octant_bytes() {
 
 // 32 bytes, the name and 12 for each vertex.
 fn successes() {
-    let first = try_octant(true, b"write_69", 1, b"A", 49305);
+    let first = try_octant(true, b"write_69", 1, b"A", 49320);
     let second = try_octant(first, b"write_188", 2, &[65; 120], 188);
     lines::print_same(b"write_successes_kept", second)
 }
@@ -135,7 +188,16 @@ fn heads() {
     let c = try_octant(b, b"write_name_0", 1, b"", 69);
     let d = try_octant(c, b"write_name_121", 1, &[65; 121], 300);
     let e = try_octant(d, b"write_23_22", 4, b"", 69);
-    let f = try_write(e, b"write_22_10", 1, b"", given::inner(), &[1, 0, 0], 69);
+    let f = try_write(
+        e,
+        b"write_22_10",
+        1,
+        b"",
+        given::inner(),
+        &[1, 0, 0],
+        given::none(),
+        69,
+    );
     lines::print_same(b"write_heads_kept", f)
 }
 
@@ -159,6 +221,15 @@ fn known_points() {
     lines::print_same(b"write_known_points_kept", third)
 }
 
+// Of two refusals 19 comes before 25, whose place counts the field of the second point.
+fn second_points() {
+    let a = try_second(true, b"write_84", 1, 1, 2, 49320);
+    let b = try_second(a, b"write_room_83", 1, 1, 2, 83);
+    let c = try_second(b, b"write_19", 1, 1, -1, 84);
+    let d = try_second(c, b"write_19_25", 1, 1, -1, 0);
+    lines::print_same(b"write_second_points_kept", d)
+}
+
 pub(crate) fn run() {
     octant_bytes();
     successes();
@@ -166,4 +237,5 @@ pub(crate) fn run() {
     heads();
     lists();
     known_points();
+    second_points();
 }

@@ -9,3 +9,4 @@ pub mod Stored
 pub mod Met
 pub mod Scanned
 pub mod Twins
+pub mod Called

@@ -5,5 +5,8 @@ pub mod Checks
 pub mod Accepted
 pub mod Border
 pub mod Verdict
+pub mod Pair
 pub mod Charts
 pub mod Claims
+pub mod PairCharts
+pub mod PairClaims

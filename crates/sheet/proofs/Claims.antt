@@ -1,32 +1,37 @@
 -- The claims of specs/Claims, proved.
--- Proved, in order: read-never-ten, sheet-size, read-writes-back, written-reads-back, octant-sheet. Assumes nothing.
+-- Proved, in order: read-never-ten, sheet-size, read-writes-back, written-reads-back, sheet-answers-as-list. The
+-- octant's sheets are in proofs/Octant, the feed in proofs/Fed. Assumes nothing.
 use mathlib.Core.Path.{_≡_, refl, sym, ap, _∙_}
-use mathlib.Core.Bool.{true}
+use mathlib.Core.Bool.{Bool, true, false}
 use mathlib.Core.List.{List, [], _++_, append-nil}
-use Prim.Native.Nat.{ℕ}
+use Prim.Native.Nat.{ℕ, _+_, _≤_}
 use native.Mathlib.Omega.{arith}
 use borrow.Author.Tests.{ltb-false, le-ltb, not-false}
 use lib.ListN.{length, drop}
 use lib.Seq.{take-at, drop-length}
-use Rattle.sphere.specs.Point.{coarse}
-use Rattle.big_endian.specs.Bytes.{shortBytes, wordBytes, intBytes, intsBytes, wordOf}
+use Rattle.sphere.specs.Point.{coarse, isNull}
 use Rattle.polygon.specs.declared.answer.Answer.the-variants.{Done}
 use Rattle.polygon.specs.declared.answer.Check.{Check}
 use Rattle.polygon.specs.declared.answer.Check.the-variants.{Passed, Failed}
 use Rattle.polygon.specs.Answer.{numberOf, answerAfter}
-use Rattle.polygon.specs.Checks.{acceptCheck}
+use Rattle.polygon.specs.Pair.{optionalCheck}
 use Rattle.polygon.proofs.Laws.Checks.{here-passed, then-passed}
-use Rattle.sheet.specs.Fields.{isAllowed, isCharset, fieldCheck, charsetStart, nameStart, sheetEnd}
-use Rattle.sheet.specs.Fields.{charsetCheck, sheetFields, restCheck, fieldsCheck}
-use Rattle.sheet.specs.Sheet.{charsetOf, nameOf, knownOf, verticesOf, sheetCheck, readAfter, readOf}
-use Rattle.sheet.specs.Write.{fieldBytes, sheetBytes, neededFor, inputCheck, writeCheck, writeOf, writtenTo}
-use Rattle.sheet.specs.Claims.{WrittenReadsBack, ReadWritesBack, ReadNeverTen, SheetSize, OctantSheet}
-use Rattle.sheet.specs.Claims.{octantBytes}
-use Rattle.sheet.proofs.Laws.Fields.{passed-field, passed-fields, passed-spans}
+use Rattle.polygon.proofs.Laws.Pair.{second-passed, called-judged}
+use Rattle.sheet.specs.Fields.{isAllowed, isCharset, fieldCheck, charsetStart, nameStart, secondStart, hasSecond}
+use Rattle.sheet.specs.Fields.{sheetEnd, charsetCheck, fiveFields, sheetFields, restCheck, fieldsCheck}
+use Rattle.sheet.specs.Sheet.{charsetOf, nameOf, knownOf, verticesOf, secondOf, sheetCheck, readAfter, readOf}
+use Rattle.sheet.specs.Judge.{sheetAnswerOf}
+use Rattle.sheet.specs.Write.{neededFor, inputCheck, writeCheck, writeOf, writtenTo}
+use Rattle.sheet.specs.Claims.{WrittenReadsBack, ReadWritesBack, ReadNeverTen, SheetSize, SheetAnswersAsList}
+use Rattle.sheet.proofs.Laws.Fields.{passed-field, passed-fields, passed-spans, five-passed, end-plain}
+use Rattle.sheet.proofs.Laws.Fields.{end-carried, end-within}
 use Rattle.sheet.proofs.Laws.Stores.{sheetBytes-length}
+use Rattle.sheet.proofs.Laws.Accepted.{accepted-some}
+use Rattle.sheet.proofs.Laws.Second.{size-kept, second-kept}
 use Rattle.sheet.proofs.Laws.Kept.{nameOf-length, verticesOf-length, sheet-kept}
 use Rattle.sheet.proofs.Laws.Written.{reads-as}
-use Rattle.sheet.proofs.Laws.Reads.{read-accepted}
+use Rattle.sheet.proofs.Laws.Reads.{carried-second, sheet-carried, sheet-plain, sheet-fields, sheet-sound}
+use Rattle.sheet.proofs.Laws.Reads.{sheet-optional, read-accepted}
 use Rattle.sheet.proofs.Laws.Writes.{passed-writable}
 use Rattle.sheet.proofs.Laws.Numbers.{Above, above-sheet, above-write}
 
@@ -48,51 +53,81 @@ pub read-never-ten : ReadNeverTen
 unfolding readOf
 read-never-ten b e = not-ten b (sheetCheck b) (above-sheet b) e
 
--- An accepted sheet: its fields are sound, they end where it ends, and the polygon is accepted.
+-- An accepted sheet: its fields are sound, they end where it ends, and its points are accepted.
 record Accepted (b : List ℕ) : Type 0 where
   sound : sheetFields b ≡ Passed
   ends : length b ≡ sheetEnd b
-  polygon : acceptCheck coarse (verticesOf b) (knownOf b) ≡ Passed
+  points : optionalCheck coarse (verticesOf b) (knownOf b) (secondOf b) ≡ Passed
+  some : hasSecond b ≡ true → isNull (secondOf b) ≡ false
 
-accepted : (b : List ℕ) → sheetCheck b ≡ Passed → Accepted b
-unfolding sheetCheck fieldsCheck restCheck
-accepted b e =
-    let one = then-passed (fieldsCheck b) (acceptCheck coarse (verticesOf b) (knownOf b)) e in
-    let two = then-passed (sheetFields b) (restCheck b) (one .0) in
-    let s = passed-spans b (two .0) in
-    let h = ltb-false (sheetEnd b) (length b) (here-passed 24 (sheetEnd b) _ (two .1)) in
-    record { sound = two .0; ends = omega arith; polygon = one .1 }
+module _ (b : List ℕ) (e : sheetCheck b ≡ Passed) where
+  no-rest : length b ≤ sheetEnd b
+  unfolding fieldsCheck restCheck
+  no-rest =
+      let rest = then-passed (sheetFields b) (restCheck b) (sheet-fields b e) .1 in
+      ltb-false (sheetEnd b) (length b) (here-passed 24 (sheetEnd b) _ rest)
+
+  carried-some : hasSecond b ≡ true → isNull (secondOf b) ≡ false
+  carried-some has =
+      let carried = sym (sheet-carried b (sheet-plain b e)) ∙ e in
+      let passed = sym (carried-second b has .1) ∙ carried in
+      let second = second-passed coarse (verticesOf b) (knownOf b) (secondOf b) passed in
+      accepted-some coarse (verticesOf b) (secondOf b) (second .accepted)
+
+  accepted : Accepted b
+  accepted =
+      let within = end-within b (sheet-sound b e) in
+      record {
+        sound = sheet-sound b e;
+        ends = omega (arith, no-rest, within);
+        points = sheet-optional b e;
+        some = carried-some;
+      }
+
+  end-bound : sheetEnd b ≤ secondStart b + 15
+  end-bound = go (hasSecond b) refl
+    where
+      go : (t : Bool) → hasSecond b ≡ t → sheetEnd b ≤ secondStart b + 15
+      go true has = omega (arith, end-carried b has)
+      go false has = omega (arith, end-plain b has)
 
 pub sheet-size : SheetSize
 sheet-size b e =
-    let a = accepted b (read-done b e) in
-    let s = passed-spans b (a .sound) in
-    (omega arith, omega arith)
+    let done = read-done b e in
+    let a = accepted b done in
+    let s = passed-spans b (five-passed b (a .sound)) in
+    (omega arith, omega (arith, a .ends, end-bound b done))
 
 -- ---- what is read writes back
 
 module _ (b : List ℕ) (a : Accepted b) where
+  five : fiveFields b ≡ Passed
+  five = five-passed b (a .sound)
+
   coded : isCharset (charsetOf b) ≡ true
   unfolding charsetCheck
   coded =
       let f = fieldCheck 2 (isAllowed 1 1 1) b charsetStart in
-      not-false _ (here-passed 23 charsetStart _ (then-passed f _ (passed-fields b (a .sound) .charset) .1))
+      not-false _ (here-passed 23 charsetStart _ (then-passed f _ (passed-fields b five .charset) .1))
 
   named : isAllowed 1 120 1 (length (nameOf b)) ≡ true
   named =
-      ap (isAllowed 1 120 1) (nameOf-length b (a .sound))
-      ∙ passed-field 3 (isAllowed 1 120 1) b nameStart (passed-fields b (a .sound) .name) .allowed
+      ap (isAllowed 1 120 1) (nameOf-length b five)
+      ∙ passed-field 3 (isAllowed 1 120 1) b nameStart (passed-fields b five .name) .allowed
 
-  needed : neededFor (nameOf b) (verticesOf b) ≡ length b
+  needed : neededFor (nameOf b) (verticesOf b) (secondOf b) ≡ length b
   needed =
-      let s = passed-spans b (a .sound) in
-      omega (arith, nameOf-length b (a .sound), verticesOf-length b (a .sound), a .ends)
+      let s = passed-spans b five in
+      let k = size-kept b (a .sound) (a .ends) (a .some) in
+      omega (arith, nameOf-length b five, verticesOf-length b five)
 
   kept-check :
-      (room : ℕ) → room ≡ length b → writeCheck (charsetOf b) (nameOf b) (knownOf b) (verticesOf b) room ≡ Passed
+      (room : ℕ) → room ≡ length b →
+      writeCheck (charsetOf b) (nameOf b) (knownOf b) (verticesOf b) (secondOf b) room ≡ Passed
   unfolding writeCheck inputCheck
   kept-check room e =
-      rw (coded, named, a .polygon, le-ltb room (neededFor (nameOf b) (verticesOf b)) (omega (arith, needed)))
+      let n = neededFor (nameOf b) (verticesOf b) (secondOf b) in
+      rw (coded, named, a .points, le-ltb room n (omega (arith, needed)))
 
 pub read-writes-back : ReadWritesBack
 unfolding writeOf writtenTo
@@ -100,7 +135,7 @@ read-writes-back b buffer are e n =
     let done = read-done b e in
     let a = accepted b done in
     let c = kept-check b a (length buffer) n in
-    let kept = sheet-kept b (a .sound) are (a .ends) in
+    let kept = sheet-kept b (five b a) are (second-kept b (a .sound) (a .ends) (a .some) are) in
     let rest : drop (length b) buffer ≡ [] = rw (sym n) (drop-length buffer) in
     rw (read-accepted b done, c)
     (ap Done (needed b a), rw kept (ap (λ (l : List ℕ). b ++ l) rest ∙ append-nil b))
@@ -113,16 +148,21 @@ write-passed (Failed n p) place h e = absurd (omega (arith, h .number n p refl))
 
 pub written-reads-back : WrittenReadsBack
 unfolding writeOf writtenTo writeCheck
-written-reads-back zone charset name known vertices buffer small e =
+written-reads-back zone charset name known vertices second buffer small e =
     let room = length buffer in
-    let c : writeCheck charset name known vertices room ≡ Passed =
-    write-passed (writeCheck charset name known vertices room) _ (above-write charset name known vertices room) e in
-    let input = then-passed (inputCheck charset name known vertices) _ c .0 in
-    let w = passed-writable charset name known vertices zone small input in
-    let size = sheetBytes-length zone charset name known vertices in
-    rw c (reads-as zone charset name known vertices w _ (take-at _ _ _ size))
+    let c : writeCheck charset name known vertices second room ≡ Passed =
+    write-passed (writeCheck charset name known vertices second room) _
+    (above-write charset name known vertices second room) e in
+    let input = then-passed (inputCheck charset name known vertices second) _ c .0 in
+    let w = passed-writable charset name known vertices second zone small input in
+    let size = sheetBytes-length zone charset name known vertices second in
+    rw c (reads-as zone charset name known vertices second w _ (take-at _ _ _ size))
 
--- ---- the vector, by computation
-pub octant-sheet : OctantSheet
-unfolding octantBytes sheetBytes fieldBytes shortBytes wordBytes intBytes intsBytes wordOf
-octant-sheet = refl
+-- ---- judging by a sheet is judging by its parts
+pub sheet-answers-as-list : SheetAnswersAsList
+unfolding sheetAnswerOf
+sheet-answers-as-list b P e =
+    let done = read-done b e in
+    let ok = sheet-optional b done in
+    rw (read-accepted b done, done)
+    (ok, sym (called-judged coarse (verticesOf b) (knownOf b) (secondOf b) P ok))

@@ -2,7 +2,7 @@
 -- Assumes nothing.
 use mathlib.Core.Path.{_≡_, refl, sym, subst}
 use mathlib.Core.List.{List}
-use Prim.Native.Nat.{ℕ, _*_}
+use Prim.Native.Nat.{ℕ}
 use native.Mathlib.Omega.{arith}
 use lib.ListN.{length}
 use Rattle.sphere.specs.declared.point.Point.{Point}
@@ -12,16 +12,16 @@ use Rattle.polygon.specs.declared.answer.Check.{Check}
 use Rattle.polygon.specs.declared.answer.Check.the-variants.{Passed, Failed}
 use Rattle.polygon.specs.Answer.{answerAfter}
 use Rattle.polygon.specs.Verdict.{answerOf}
+use Rattle.polygon.specs.Pair.{judgeFrom}
 use Rattle.polygon.proofs.Laws.Checks.{then-passed}
-use Rattle.batch.specs.Buffer.{bufferAfter}
-use Rattle.batch.specs.Feed.{sizeCheck, queryAt, feedBytes}
-use Rattle.batch.specs.Claims.{Encodes, Fed}
+use Rattle.batch.specs.Feed.{sizeCheck}
+use Rattle.batch.specs.Claims.{Fed}
 use Rattle.batch.proofs.Laws.Ends.{size-passed}
-use Rattle.batch.proofs.Laws.Fed.{fed-results}
-use Rattle.sheet.specs.Sheet.{knownOf, verticesOf, sheetCheck}
+use Rattle.batch.proofs.Laws.Fed.{fed-results, fed-same}
+use Rattle.sheet.specs.Sheet.{knownOf, verticesOf, secondOf, sheetCheck}
 use Rattle.sheet.specs.Judge.{sheetAnswerOf, sheetFeedCheck, sheetFeedOf, sheetFedTo}
-use Rattle.sheet.specs.Claims.{SheetFed, SheetFeedEqualsSingle}
-use Rattle.sheet.proofs.Laws.Reads.{sheet-passed}
+use Rattle.sheet.specs.Claims.{SheetFeedEqualsSingle}
+use Rattle.sheet.proofs.Laws.Reads.{sheet-optional}
 use Rattle.sheet.proofs.Laws.Feeds.{feed-ends}
 
 -- A feed succeeds only if its checks pass.
@@ -41,26 +41,17 @@ module _ (b queries buffer : List ℕ) (done : sheetFeedOf b queries (length buf
   whole = done-passed (sheetFeedCheck b queries (length buffer)) done
 
   -- the single call by an accepted sheet
-  single : (P : Point) → answerOf coarse (verticesOf b) (knownOf b) P ≡ sheetAnswerOf b P
+  single : (P : Point) →
+      answerOf coarse (verticesOf b) (judgeFrom (knownOf b) (secondOf b) P) P ≡ sheetAnswerOf b P
   unfolding sheetAnswerOf
   single P = rw (passed .1)
 
-  after : List ℕ
-  after = bufferAfter Passed (feedBytes coarse (verticesOf b) (knownOf b) queries) buffer
-
-  fed : Fed coarse (verticesOf b) (knownOf b) queries buffer after
-  unfolding after
-  fed =
-      fed-results coarse (verticesOf b) (knownOf b) queries buffer (size-passed queries (length buffer) (passed .0))
-      (sheet-passed b (passed .1) .1)
-
-  sheet-fed : SheetFed b queries buffer (sheetFedTo b queries buffer)
-  unfolding after
-  sheet-fed = subst (SheetFed b queries buffer) (sym (feed-ends b queries buffer whole .filled)) (record {
-    same-length = fed .same-length;
-    each = λ i h. subst (Encodes after (i * 12)) (single (queryAt queries i)) (fed .each i h);
-    rest = fed .rest;
-  })
+  sheet-fed : Fed (sheetAnswerOf b) queries buffer (sheetFedTo b queries buffer)
+  sheet-fed =
+      subst (Fed (sheetAnswerOf b) queries buffer) (sym (feed-ends b queries buffer whole .filled))
+      (fed-same single
+      (fed-results coarse (verticesOf b) (knownOf b) (secondOf b) queries buffer
+      (size-passed queries (length buffer) (passed .0)) (sheet-optional b (passed .1))))
 
 pub sheet-feed-equals-single : SheetFeedEqualsSingle
 sheet-feed-equals-single = sheet-fed

@@ -1,22 +1,26 @@
 -- The promised theorems, as statements. Their proofs are in proofs/Claims. Stated, in order: WrittenReadsBack (what
 -- is written reads back the same), ReadWritesBack (what is read writes back the same bytes), ReadNeverTen (reading
--- never gives 10), SheetSize (a sheet has 69 to 49,304 bytes), OctantSheet (document 01's sheet of 69 bytes, byte by
--- byte: the round trips would hold of another layout too), SheetFeedEqualsSingle (a feed by a sheet answers each
--- query as the single call does). They are of the definitions that the contracts of `read`, `load`, `write`, `judge`
--- and `feed` cite. Assumes nothing.
+-- never gives 10), SheetSize (a sheet has 69 to 49,319 bytes), OctantSheet (document 01's sheet of 69 bytes, byte by
+-- byte: the round trips would hold of another layout too), OctantPairSheet (the same with a second point, 84 bytes),
+-- SheetAnswersAsList (judging by a sheet is judging by the list and the points in it, so that polygon's claims hold of
+-- it), SheetFeedEqualsSingle (a feed by a sheet answers each query as the single call does). They are of the
+-- definitions that the contracts of `read`, `load`, `write`, `judge` and `feed` cite. A second point of all zero is
+-- none. Assumes nothing.
 use mathlib.Core.Path.{_≡_}
 use mathlib.Core.List.{List, [], _∷_, _++_}
-use Prim.Native.Nat.{ℕ, _*_, _≤_, _<_}
-use lib.IntN.{ℤ, pos}
+use Prim.Native.Nat.{ℕ, _≤_, _<_}
+use lib.IntN.{ℤ, pos, negsuc}
 use lib.ListN.{length, take, drop}
 use Rattle.sphere.specs.declared.point.Point.{Point}
+use Rattle.sphere.specs.Point.{coarse}
 use Rattle.big_endian.specs.Bytes.{AreBytes}
-use Rattle.batch.specs.Feed.{queryCount, queryAt}
-use Rattle.batch.specs.Feed as Feed
-use Rattle.batch.specs.Claims.{Encodes}
-use Rattle.polygon.specs.declared.answer.Answer.the-variants.{Done}
+use Rattle.batch.specs.Feed.{noSecond}
+use Rattle.batch.specs.Claims.{Fed}
+use Rattle.polygon.specs.declared.answer.Answer.the-variants.{Done, Outside, Refused}
+use Rattle.polygon.specs.declared.answer.Check.the-variants.{Passed}
 use Rattle.polygon.specs.Answer.{numberOf, placeOf}
 use Rattle.polygon.specs.Vertices.{vertexCount}
+use Rattle.polygon.specs.Pair.{optionalCheck, calledOf}
 use Rattle.sheet.specs.declared.read.Sheet.{Sheet}
 use Rattle.sheet.specs.Sheet.{nameAt, verticesOf, readOf}
 use Rattle.sheet.specs.Judge.{sheetAnswerOf, sheetFeedOf, sheetFedTo}
@@ -27,7 +31,8 @@ abbrev pub nameIn : Sheet → List ℕ → List ℕ
 nameIn s b = take (s .«name_len») (drop (s .«name_at») b)
 
 -- Reading the bytes b hands back these parts, and no refusal.
-pub record ReadsAs (zone charset : ℕ) (name : List ℕ) (known : Point) (vertices : List ℤ) (b : List ℕ) : Type 0 where
+pub record ReadsAs (zone charset : ℕ) (name : List ℕ) (known : Point) (vertices : List ℤ) (second : Point) (b : List ℕ)
+    : Type 0 where
   pub handed-back : readOf b ≡ record {
     answer = Done (length b);
     zone = zone;
@@ -36,6 +41,7 @@ pub record ReadsAs (zone charset : ℕ) (name : List ℕ) (known : Point) (verti
     «name_len» = length name;
     known = known;
     «vertex_count» = vertexCount vertices;
+    second = second;
   }
   pub same-name : nameIn (readOf b) b ≡ name
   pub same-vertices : verticesOf b ≡ vertices
@@ -43,26 +49,26 @@ pub record ReadsAs (zone charset : ℕ) (name : List ℕ) (known : Point) (verti
 -- After a successful write, reading exactly the bytes written. The place of success is how many they are.
 abbrev pub WrittenReadsBack : Type 0
 WrittenReadsBack =
-    (zone charset : ℕ) (name : List ℕ) (known : Point) (vertices : List ℤ) (buffer : List ℕ) → zone < 4294967296 →
-    numberOf (writeOf charset name known vertices (length buffer)) ≡ 0 →
-    ReadsAs zone charset name known vertices
-    (take (placeOf (writeOf charset name known vertices (length buffer)))
-    (writtenTo zone charset name known vertices buffer))
+    (zone charset : ℕ) (name : List ℕ) (known : Point) (vertices : List ℤ) (second : Point) (buffer : List ℕ) →
+    zone < 4294967296 → numberOf (writeOf charset name known vertices second (length buffer)) ≡ 0 →
+    ReadsAs zone charset name known vertices second
+    (take (placeOf (writeOf charset name known vertices second (length buffer)))
+    (writtenTo zone charset name known vertices second buffer))
 
 -- After a successful read, writing what was read into a buffer of as many bytes.
 abbrev pub ReadWritesBack : Type 0
 ReadWritesBack =
     (b buffer : List ℕ) → AreBytes b → numberOf (readOf b .answer) ≡ 0 → length buffer ≡ length b →
     let s = readOf b in
-    (writeOf (s .charset) (nameIn s b) (s .known) (verticesOf b) (length buffer) ≡ Done (length b))
-    × (writtenTo (s .zone) (s .charset) (nameIn s b) (s .known) (verticesOf b) buffer ≡ b)
+    (writeOf (s .charset) (nameIn s b) (s .known) (verticesOf b) (s .second) (length buffer) ≡ Done (length b))
+    × (writtenTo (s .zone) (s .charset) (nameIn s b) (s .known) (verticesOf b) (s .second) buffer ≡ b)
 
 -- A list that is too short or too long is refused by its length, 22.
 abbrev pub ReadNeverTen : Type 0
 ReadNeverTen = (b : List ℕ) → numberOf (readOf b .answer) ≡ 10 → ⊥
 
 abbrev pub SheetSize : Type 0
-SheetSize = (b : List ℕ) → numberOf (readOf b .answer) ≡ 0 → (69 ≤ length b) × (length b ≤ 49304)
+SheetSize = (b : List ℕ) → numberOf (readOf b .answer) ≡ 0 → (69 ≤ length b) × (length b ≤ 49319)
 
 -- The octant with known point (1,1,1), zone number 7, character set 1 and the one-byte name 0x41.
 abbrev octant : List ℤ
@@ -85,16 +91,35 @@ octantBytes =
     ++ (5 ∷ 0 ∷ 36 ∷ coordinates (1 ∷ 0 ∷ 0 ∷ 0 ∷ 1 ∷ 0 ∷ 0 ∷ 0 ∷ 1 ∷ [])))))
 
 abbrev pub OctantSheet : Type 0
-OctantSheet = sheetBytes 7 1 (65 ∷ []) centre octant ≡ octantBytes
+OctantSheet = sheetBytes 7 1 (65 ∷ []) centre octant noSecond ≡ octantBytes
 
--- The result buffer after a feed that succeeds: what the single call by the sheet answers to each query, in order, and
--- every other byte as it was.
-pub record SheetFed (b queries buffer after : List ℕ) : Type 0 where
-  pub same-length : length after ≡ length buffer
-  pub each : (i : ℕ) → i < queryCount queries → Encodes after (i * 12) (sheetAnswerOf b (queryAt queries i))
-  pub rest : drop (Feed.neededFor queries) after ≡ drop (Feed.neededFor queries) buffer
+-- The same with the second point (1,1,2), which passes: the sheet reads, and K8, opposite the known point, is judged.
+abbrev second : Point
+second = record { x = pos 1; y = pos 1; z = pos 2 }
 
+unfoldable pub octantPairBytes : List ℕ
+octantPairBytes = octantBytes ++ (6 ∷ 0 ∷ 12 ∷ coordinates (1 ∷ 1 ∷ 2 ∷ []))
+
+abbrev farthest : Point
+farthest = record { x = negsuc 0; y = negsuc 0; z = negsuc 0 }
+
+abbrev pub OctantPairSheet : Type 0
+OctantPairSheet =
+    (sheetBytes 7 1 (65 ∷ []) centre octant second ≡ octantPairBytes)
+    × (readOf octantPairBytes .answer ≡ Done 84)
+    × (sheetAnswerOf octantBytes farthest ≡ Refused 18 0)
+    × (sheetAnswerOf octantPairBytes farthest ≡ Outside 1 (negsuc 0))
+
+-- With the parts of a sheet that was read: they are accepted, and the answer is theirs.
+abbrev pub SheetAnswersAsList : Type 0
+SheetAnswersAsList =
+    (b : List ℕ) (P : Point) → numberOf (readOf b .answer) ≡ 0 →
+    let s = readOf b in
+    (optionalCheck coarse (verticesOf b) (s .known) (s .second) ≡ Passed)
+    × (sheetAnswerOf b P ≡ calledOf coarse (verticesOf b) (s .known) (s .second) P)
+
+-- After a feed that succeeds the result buffer holds what the single call by the sheet answers to each query.
 abbrev pub SheetFeedEqualsSingle : Type 0
 SheetFeedEqualsSingle =
     (b queries buffer : List ℕ) → sheetFeedOf b queries (length buffer) ≡ Done 0 →
-    SheetFed b queries buffer (sheetFedTo b queries buffer)
+    Fed (sheetAnswerOf b) queries buffer (sheetFedTo b queries buffer)

@@ -1,15 +1,17 @@
 -- Document 01, 'The zone sheet', first layer: the fields, by bytes alone. Refusals 20 to 24, each with its place.
 -- Defined, in order: isAllowed, fieldEnd, fieldCheck (one field: 20, 21, 22, 20); charsetStart, nameStart,
--- knownStart, verticesStart, sheetEnd; zoneCheck, isCharset, charsetCheck, isNameLength, nameCheck, knownCheck,
--- verticesCheck; sheetFields (20 to 23), restCheck (24), fieldsCheck. A field begins at its tag. What the fields mean
--- is in specs/Sheet. Assumes nothing.
-use mathlib.Core.Bool.{Bool, not, _&&_}
+-- knownStart, verticesStart, secondStart, hasSecond, sheetEnd; zoneCheck, isCharset, charsetCheck, isNameLength,
+-- nameCheck, knownCheck, verticesCheck, fiveFields; secondField (document 02, P4: tag 6, which may be missing),
+-- sheetFields (20 to 23), restCheck (24), fieldsCheck. A field begins at its tag. What the fields mean is in
+-- specs/Sheet. Assumes nothing.
+use mathlib.Core.Bool.{Bool, not, _&&_, cond}
 use mathlib.Core.List.{List}
 use Prim.Native.Nat.{ℕ, _+_, _%_}
 use lib.Dec.{eqb, leb, ltb}
 use lib.ListN.{length}
 use Rattle.big_endian.specs.Bytes.{byteAt, shortAt}
 use Rattle.polygon.specs.declared.answer.Check.{Check}
+use Rattle.polygon.specs.declared.answer.Check.the-variants.{Passed}
 use Rattle.polygon.specs.Checks.{_then_, failsHere}
 
 -- ---- one field: a tag, two bytes of length, the body
@@ -30,7 +32,7 @@ fieldCheck tag isLength b at =
     then failsHere 22 at (not (isLength (shortAt b (at + 1))))
     then failsHere 20 at (ltb (length b) (fieldEnd b at))
 
--- ---- where the fields begin. Those with tags 1, 2 and 4 have one length.
+-- ---- where the fields begin. Those with tags 1, 2, 4 and 6 have one length.
 
 abbrev pub charsetStart : ℕ
 charsetStart = 7
@@ -44,10 +46,18 @@ knownStart b = fieldEnd b nameStart
 abbrev pub verticesStart : List ℕ → ℕ
 verticesStart b = knownStart b + 15
 
-abbrev pub sheetEnd : List ℕ → ℕ
-sheetEnd b = fieldEnd b (verticesStart b)
+-- Where the second point's field begins, if there is one: a byte 6 after the vertices starts it. (A byte past the end
+-- of the list reads as 0.)
+abbrev pub secondStart : List ℕ → ℕ
+secondStart b = fieldEnd b (verticesStart b)
 
--- ---- the five fields, in order
+unfoldable pub hasSecond : List ℕ → Bool
+hasSecond b = eqb (byteAt b (secondStart b)) 6
+
+abbrev pub sheetEnd : List ℕ → ℕ
+sheetEnd b = cond (hasSecond b) (secondStart b + 15) (secondStart b)
+
+-- ---- the five fields that every sheet has, in order
 
 abbrev pub zoneCheck : List ℕ → Check
 zoneCheck b = fieldCheck 1 (isAllowed 4 4 1) b 0
@@ -73,9 +83,17 @@ knownCheck b = fieldCheck 4 (isAllowed 12 12 1) b (knownStart b)
 abbrev pub verticesCheck : List ℕ → Check
 verticesCheck b = fieldCheck 5 (isAllowed 36 49152 12) b (verticesStart b)
 
+unfoldable pub fiveFields : List ℕ → Check
+fiveFields b = zoneCheck b then charsetCheck b then nameCheck b then knownCheck b then verticesCheck b
+
+-- ---- and the sixth
+
+unfoldable pub secondField : List ℕ → Check
+secondField b = cond (hasSecond b) (fieldCheck 6 (isAllowed 12 12 1) b (secondStart b)) Passed
+
 -- The fields alone: bytes may follow.
 unfoldable pub sheetFields : List ℕ → Check
-sheetFields b = zoneCheck b then charsetCheck b then nameCheck b then knownCheck b then verticesCheck b
+sheetFields b = fiveFields b then secondField b
 
 unfoldable pub restCheck : List ℕ → Check
 restCheck b = failsHere 24 (sheetEnd b) (ltb (sheetEnd b) (length b))

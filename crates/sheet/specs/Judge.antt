@@ -1,4 +1,5 @@
--- Judging by a sheet's bytes: one query, and a feed of them (document 02, P1). A bad sheet gives that sheet's refusal.
+-- Judging by a sheet's bytes: one query, and a feed of them (document 02, P1). A bad sheet gives that sheet's refusal,
+-- and a query opposite the known point is judged from the second point, if the sheet has one (document 02, P4).
 -- Defined, in order: sheetAnswerOf, sheetLookedOf, sheetJudgementOf; sheetFeedCheck (26 and 27 come before 20),
 -- sheetFeedOf, sheetFedTo. Document 01, 'The zone sheet', on the importer's calls. Assumes nothing.
 use mathlib.Core.List.{List}
@@ -12,18 +13,21 @@ use Rattle.polygon.specs.declared.answer.Check.{Check}
 use Rattle.polygon.specs.Answer.{answerAfter}
 use Rattle.polygon.specs.Checks.{_then_}
 use Rattle.polygon.specs.Verdict.{answerOf}
+use Rattle.polygon.specs.Pair.{judgeFrom}
 use Rattle.judging.specs.declared.judge.Judgement.{Judgement}
 use Rattle.judging.specs.Walk.{lookedAfter, lookedOf}
 use Rattle.batch.specs.Buffer.{bufferAfter}
 use Rattle.batch.specs.Feed.{sizeCheck, feedBytes}
-use Rattle.sheet.specs.Sheet.{knownOf, verticesOf, sheetCheck}
+use Rattle.sheet.specs.Sheet.{knownOf, verticesOf, secondOf, sheetCheck}
 
 unfoldable pub sheetAnswerOf : List ℕ → Point → Answer
-sheetAnswerOf b P = answerAfter (sheetCheck b) (answerOf coarse (verticesOf b) (knownOf b) P)
+sheetAnswerOf b P =
+    answerAfter (sheetCheck b) (answerOf coarse (verticesOf b) (judgeFrom (knownOf b) (secondOf b) P) P)
 
 -- How many edges were looked at for it (document 02, P2), and both together.
 unfoldable pub sheetLookedOf : List ℕ → Point → ℕ
-sheetLookedOf b P = lookedAfter (sheetCheck b) (lookedOf coarse (verticesOf b) (knownOf b) P)
+sheetLookedOf b P =
+    lookedAfter (sheetCheck b) (lookedOf coarse (verticesOf b) (judgeFrom (knownOf b) (secondOf b) P) P)
 
 unfoldable pub sheetJudgementOf : List ℕ → Point → Judgement
 sheetJudgementOf b P = record { answer = sheetAnswerOf b P; looked = sheetLookedOf b P }
@@ -38,4 +42,5 @@ sheetFeedOf b queries room = answerAfter (sheetFeedCheck b queries room) (Done 0
 -- The result buffer after the call: the results in front, or all as it was.
 unfoldable pub sheetFedTo : List ℕ → List ℕ → List ℕ → List ℕ
 sheetFedTo b queries buffer =
-    bufferAfter (sheetFeedCheck b queries (length buffer)) (feedBytes coarse (verticesOf b) (knownOf b) queries) buffer
+    bufferAfter (sheetFeedCheck b queries (length buffer))
+    (feedBytes coarse (verticesOf b) (knownOf b) (secondOf b) queries) buffer

@@ -1,7 +1,8 @@
 -- Document 01, 'The zone sheet', second layer: what the fields mean, and what reading hands back. Defined, in order:
--- zoneOf, charsetOf, nameAt, nameLength, nameOf, knownOf, vertexCountOf, verticesOf; sheetCheck (20 to 24, then 11 to
--- 16); refusedSheet, readAfter, readOf; loadedOf, decodedOf. On bytes that are no sheet the parts mean nothing and
--- only sheetCheck counts. Assumes nothing.
+-- zoneOf, charsetOf, nameAt, nameLength, nameOf, knownOf, vertexCountOf, verticesOf, secondOf; plainCheck (20 to 24,
+-- then 11 to 16), carriedCheck (19), sheetCheck (all of them); refusedSheet, readAfter, readOf; loadedOf, decodedOf. On
+-- bytes that are no sheet the parts mean nothing and only sheetCheck counts. Assumes nothing.
+use mathlib.Core.Bool.{cond}
 use mathlib.Core.List.{List, _++_}
 use Prim.Native.Nat.{ℕ, _+_, _*_, _/_}
 use lib.IntN.{ℤ, pos}
@@ -13,8 +14,11 @@ use Rattle.polygon.specs.declared.answer.Answer.the-variants.{Done, Refused}
 use Rattle.polygon.specs.declared.answer.Check.{Check}
 use Rattle.polygon.specs.declared.answer.Check.the-variants.{Passed, Failed}
 use Rattle.polygon.specs.Checks.{_then_, acceptCheck}
+use Rattle.polygon.specs.Pair.{secondCheck}
+use Rattle.batch.specs.Feed.{noSecond}
 use Rattle.sheet.specs.declared.read.Sheet.{Sheet}
-use Rattle.sheet.specs.Fields.{charsetStart, nameStart, knownStart, verticesStart, fieldsCheck}
+use Rattle.sheet.specs.Fields.{charsetStart, nameStart, knownStart, verticesStart, secondStart, hasSecond}
+use Rattle.sheet.specs.Fields.{fieldsCheck}
 
 -- ---- the parts
 
@@ -43,10 +47,22 @@ vertexCountOf b = shortAt b (verticesStart b + 1) / 12
 abbrev pub verticesOf : List ℕ → List ℤ
 verticesOf b = intsAt b (verticesStart b + 3) (vertexCountOf b * 3)
 
+-- The point of tag 6, or none: all zero.
+unfoldable pub secondOf : List ℕ → Point
+secondOf b = cond (hasSecond b) (pointAt b (secondStart b + 3)) noSecond
+
 -- ---- reading
 
+-- A sheet without regard to its second point.
+unfoldable pub plainCheck : List ℕ → Check
+plainCheck b = fieldsCheck b then acceptCheck coarse (verticesOf b) (knownOf b)
+
+-- The second point, where the field is there: one of all zero fails too.
+unfoldable pub carriedCheck : List ℕ → Check
+carriedCheck b = cond (hasSecond b) (secondCheck coarse (verticesOf b) (knownOf b) (secondOf b)) Passed
+
 unfoldable pub sheetCheck : List ℕ → Check
-sheetCheck b = fieldsCheck b then acceptCheck coarse (verticesOf b) (knownOf b)
+sheetCheck b = plainCheck b then carriedCheck b
 
 -- A refusal, and zeros beside it.
 abbrev pub refusedSheet : ℕ → ℕ → Sheet
@@ -58,6 +74,7 @@ refusedSheet number place = record {
   «name_len» = 0;
   known = record { x = pos 0; y = pos 0; z = pos 0 };
   «vertex_count» = 0;
+  second = noSecond;
 }
 
 abbrev pub readAfter : Check → List ℕ → Sheet
@@ -70,6 +87,7 @@ readAfter Passed b = record {
   «name_len» = nameLength b;
   known = knownOf b;
   «vertex_count» = vertexCountOf b;
+  second = secondOf b;
 }
 
 -- What reading hands back of any bytes.

@@ -47,6 +47,8 @@ pub fn feed(sheet: &[u8], queries: &[u8], results: &mut [u8]) -> Answer
         Check::Failed(number, place) => return Answer::Refused(number, place),
     }
     let size = open::vertex_count(sheet) * 3;
-    judge_all(&scratch[..size], open::known_point(sheet), queries, results);
+    let known = open::known_point(sheet);
+    let second = open::second_point(sheet);
+    judge_all(&scratch[..size], known, second, queries, results);
     Answer::Done(0)
 }

@@ -1,13 +1,14 @@
 // The fields of a sheet, by bytes alone: refusals 20 to 24 with their places.
-// Here, in order: is_allowed, field_check (one field), is_charset, charset_check, known_start, sheet_fields (20 to
-// 23), vertices_start, sheet_end, fields_check (20 to 24). A later field is looked at only where those before it have
-// passed. Assumes nothing.
+// Here, in order: is_allowed, field_check (one field), is_charset, charset_check, known_start, five_fields,
+// vertices_start, second_start, has_second, second_field, sheet_fields (20 to 23), sheet_end, fields_check (20 to 24).
+// A later field is looked at only where those before it have passed. Assumes nothing.
 ghost use mathlib.Core.Path.{_≡_};
 ghost use Prim.Native.Nat.{_+_, _≤_, _<_};
 ghost use lib.ListN.{length};
 ghost use Rattle.polygon.specs.declared.answer.Check.the-variants.{Passed};
-ghost use Rattle.sheet.specs.Fields.{isAllowed, fieldCheck, knownStart, verticesStart, sheetEnd, isCharset};
-ghost use Rattle.sheet.specs.Fields.{charsetCheck, sheetFields, fieldsCheck};
+ghost use Rattle.sheet.specs.Fields.{isAllowed, fieldCheck, knownStart, verticesStart, secondStart, hasSecond};
+ghost use Rattle.sheet.specs.Fields.{sheetEnd, isCharset, charsetCheck, fiveFields, secondField, sheetFields};
+ghost use Rattle.sheet.specs.Fields.{fieldsCheck};
 use big_endian::read;
 use polygon::answer::Check;
 
@@ -83,9 +84,9 @@ pub fn known_start(b: &[u8]) -> usize
     NAME_START + 3 + read::short_at(b, NAME_START + 1) as usize
 }
 
-// The five fields, in order. Bytes may follow.
-pub fn sheet_fields(b: &[u8]) -> Check
-    ensures { λ r. ⌜ r ≡ sheetFields (now (b .entry)) ⌝ }
+// The five fields that every sheet has, in order. Bytes may follow.
+fn five_fields(b: &[u8]) -> Check
+    ensures { λ r. ⌜ r ≡ fiveFields (now (b .entry)) ⌝ }
 {
     if let Check::Failed(number, place) = field_check(b, 0, 1, 4, 4, 1) {
         return Check::Failed(number, place);
@@ -105,10 +106,52 @@ pub fn sheet_fields(b: &[u8]) -> Check
 
 // Where the field of the vertices begins.
 pub fn vertices_start(b: &[u8]) -> usize
-    requires { ⌜ sheetFields (now b) ≡ Passed ⌝ }
+    requires { ⌜ fiveFields (now b) ≡ Passed ⌝ }
     ensures { λ r. ⌜ (r ≡ verticesStart (now (b .entry))) × (r + 39 ≤ length (now (b .entry))) ⌝ }
 {
     known_start(b) + 15
+}
+
+// Where the vertices end. The second point's field begins there, if there is one.
+pub fn second_start(b: &[u8]) -> usize
+    requires { ⌜ fiveFields (now b) ≡ Passed ⌝ }
+    ensures { λ r. ⌜ (r ≡ secondStart (now (b .entry))) × (r ≤ length (now (b .entry))) ⌝ }
+{
+    let at = vertices_start(b);
+    at + 3 + read::short_at(b, at + 1) as usize
+}
+
+// A byte 6 there starts it.
+pub fn has_second(b: &[u8]) -> bool
+    requires { ⌜ fiveFields (now b) ≡ Passed ⌝ }
+    ensures { λ r. ⌜ r ≡ hasSecond (now (b .entry)) ⌝ }
+{
+    let at = second_start(b);
+    if at < b.len() {
+        return b[at] == 6;
+    }
+    false
+}
+
+// The second point's field, if there is one.
+fn second_field(b: &[u8]) -> Check
+    requires { ⌜ fiveFields (now b) ≡ Passed ⌝ }
+    ensures { λ r. ⌜ r ≡ secondField (now (b .entry)) ⌝ }
+{
+    if has_second(b) {
+        return field_check(b, second_start(b), 6, 12, 12, 1);
+    }
+    Check::Passed
+}
+
+// All fields. Bytes may follow.
+pub fn sheet_fields(b: &[u8]) -> Check
+    ensures { λ r. ⌜ r ≡ sheetFields (now (b .entry)) ⌝ }
+{
+    if let Check::Failed(number, place) = five_fields(b) {
+        return Check::Failed(number, place);
+    }
+    second_field(b)
 }
 
 // Where a sheet ends whose fields are sound.
@@ -116,11 +159,14 @@ pub fn sheet_end(b: &[u8]) -> usize
     requires { ⌜ sheetFields (now b) ≡ Passed ⌝ }
     ensures { λ r. ⌜ (r ≡ sheetEnd (now (b .entry))) × (r ≤ length (now (b .entry))) ⌝ }
 {
-    let at = vertices_start(b);
-    at + 3 + read::short_at(b, at + 1) as usize
+    let at = second_start(b);
+    if has_second(b) {
+        return at + 15;
+    }
+    at
 }
 
-// The five fields, and nothing after them.
+// All fields, and nothing after them.
 pub fn fields_check(b: &[u8]) -> Check
     ensures { λ r. ⌜ r ≡ fieldsCheck (now (b .entry)) ⌝ }
 {

@@ -1,11 +1,12 @@
-// Judging by a sheet's bytes. Any bytes and any query; nothing is written.
+// Judging by a sheet's bytes, from its known point or, for a query opposite that, from its second point. Any bytes and
+// any query; nothing is written.
 // Here, in order: judgement (the answer, and the number of edges looked at), judge, looked. Assumes nothing.
 ghost use mathlib.Core.Path.{_≡_};
 ghost use Rattle.sheet.specs.Judge.{sheetAnswerOf, sheetLookedOf, sheetJudgementOf};
 use crate::open;
 use judging::judge::Judgement;
-use judging::judge::judge_accepted;
 use judging::judge::refused;
+use judging::pair::judge_called;
 use polygon::answer::Answer;
 use polygon::answer::Check;
 use sphere::point::Point;
@@ -17,7 +18,12 @@ fn judgement(b: &[u8], query: Point) -> Judgement
     match open::open(b, &mut scratch) {
         Check::Passed => {
             let size = open::vertex_count(b) * 3;
-            judge_accepted(&scratch[..size], open::known_point(b), query)
+            judge_called(
+                &scratch[..size],
+                open::known_point(b),
+                open::second_point(b),
+                query,
+            )
         }
         Check::Failed(number, place) => refused(number, place),
     }

@@ -10,7 +10,8 @@ use polygon::answer::Answer;
 use polygon::answer::Check;
 use sphere::point::Point;
 
-// What reading hands back: document 01's answer, and the parts of the sheet, all zero on a refusal.
+// What reading hands back: document 01's answer, and the parts of the sheet, all zero on a refusal. The second point is
+// all zero too where the sheet has none.
 pub struct Sheet {
     pub answer: Answer,
     pub zone: u32,
@@ -19,6 +20,7 @@ pub struct Sheet {
     pub name_len: usize,
     pub known: Point,
     pub vertex_count: usize,
+    pub second: Point,
 }
 
 fn refused(number: u32, place: usize) -> Sheet
@@ -32,6 +34,7 @@ fn refused(number: u32, place: usize) -> Sheet
         name_len: 0,
         known: Point { x: 0, y: 0, z: 0 },
         vertex_count: 0,
+        second: Point { x: 0, y: 0, z: 0 },
     }
 }
 
@@ -48,10 +51,11 @@ fn accepted(b: &[u8]) -> Sheet
         name_len: read::short_at(b, fields::NAME_START + 1) as usize,
         known: open::known_point(b),
         vertex_count: open::vertex_count(b),
+        second: open::second_point(b),
     }
 }
 
-// All checks of a sheet: 20 to 24, then 11 to 16.
+// All checks of a sheet: 20 to 24, then 11 to 16, then 19.
 pub fn sheet_check(b: &[u8]) -> Check
     ensures { λ r. ⌜ r ≡ sheetCheck (now (b .entry)) ⌝ }
 {

@@ -1,5 +1,6 @@
 // Storing a sheet, field by field. A byte that is not named stays.
-// Here, in order: put_head, put_zone, put_charset, put_name, put_known, put_vertices; put_sheet. Assumes nothing.
+// Here, in order: put_head, put_zone, put_charset, put_name, put_place (a point), put_vertices, put_second; put_sheet.
+// Assumes nothing.
 ghost use mathlib.Core.Path.{_≡_};
 ghost use mathlib.Core.List.{[], _∷_};
 ghost use Prim.Native.Nat.{_+_, _*_, _≤_, _<_};
@@ -7,9 +8,10 @@ ghost use lib.ListN.{length};
 ghost use lib.Seq.{sets};
 ghost use Rattle.sphere.specs.Point.{Within};
 ghost use Rattle.big_endian.specs.Bytes.{shortBytes, wordBytes, intsBytes, pointBytes};
-ghost use Rattle.sheet.specs.Write.{fieldBytes, sheetBytes, Storable};
+ghost use Rattle.sheet.specs.Write.{fieldBytes, secondBytes, secondSize, sheetBytes, Storable};
 use big_endian::store;
 use sphere::point::Point;
+use sphere::point::is_null;
 
 // A tag and a length.
 fn put_head(b: &mut [u8], at: usize, tag: u8, n: u32)
@@ -44,12 +46,13 @@ fn put_name(b: &mut [u8], name: &[u8])
     store::put_bytes(b, 14, name)
 }
 
-fn put_known(b: &mut [u8], at: usize, known: Point)
-    requires { ⌜ (at + 15 ≤ length (now b)) × Within 2147483647 known ⌝ }
-    ensures { λ _. ⌜ now (b .exit) ≡ sets (now (b .entry)) at (fieldBytes 4 (pointBytes known)) ⌝ }
+// The field of the known point, and of the second one.
+fn put_place(b: &mut [u8], at: usize, tag: u8, p: Point)
+    requires { ⌜ (at + 15 ≤ length (now b)) × Within 2147483647 p ⌝ }
+    ensures { λ _. ⌜ now (b .exit) ≡ sets (now (b .entry)) at (fieldBytes tag (pointBytes p)) ⌝ }
 {
-    put_head(b, at, 4, 12);
-    store::put_point(b, at + 3, known)
+    put_head(b, at, tag, 12);
+    store::put_point(b, at + 3, p)
 }
 
 fn put_vertices(b: &mut [u8], at: usize, vertices: &[i32])
@@ -60,17 +63,36 @@ fn put_vertices(b: &mut [u8], at: usize, vertices: &[i32])
     store::put_ints(b, at + 3, vertices)
 }
 
+// No byte changes where there is no second point.
+fn put_second(b: &mut [u8], at: usize, second: Point)
+    requires { ⌜ (at + secondSize second ≤ length (now b)) × Within 2147483647 second ⌝ }
+    ensures { λ _. ⌜ now (b .exit) ≡ sets (now (b .entry)) at (secondBytes second) ⌝ }
+{
+    if !is_null(second) {
+        put_place(b, at, 6, second);
+    }
+}
+
 // The whole sheet, in the first bytes.
-pub fn put_sheet(b: &mut [u8], zone: u32, charset: u32, name: &[u8], known: Point, vertices: &[i32])
-    requires { ⌜ Storable charset (now name) known (now vertices) (length (now b)) ⌝ }
+pub fn put_sheet(
+    b: &mut [u8],
+    zone: u32,
+    charset: u32,
+    name: &[u8],
+    known: Point,
+    vertices: &[i32],
+    second: Point,
+)
+    requires { ⌜ Storable charset (now name) known (now vertices) second (length (now b)) ⌝ }
     ensures { λ _.
         ⌜ now (b .exit)
-        ≡ sets (now (b .entry)) 0 (sheetBytes zone charset (now (name .entry)) known (now (vertices .entry))) ⌝ }
+        ≡ sets (now (b .entry)) 0 (sheetBytes zone charset (now (name .entry)) known (now (vertices .entry)) second) ⌝ }
 {
     put_zone(b, zone);
     put_charset(b, charset);
     put_name(b, name);
     let at = 14 + name.len();
-    put_known(b, at, known);
-    put_vertices(b, at + 15, vertices)
+    put_place(b, at, 4, known);
+    put_vertices(b, at + 15, vertices);
+    put_second(b, at + 18 + vertices.len() * 4, second)
 }

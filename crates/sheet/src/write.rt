@@ -1,18 +1,20 @@
 // Writing a sheet, from any input into any buffer.
-// Here, in order: input_check (23, 22, 10 to 16), needed_for, write (25 too). Assumes nothing.
+// Here, in order: input_check (23, 22, 10 to 16, 19), second_size, needed_for, write (25 too). A second point of all
+// zero is none. Assumes nothing.
 ghost use mathlib.Core.Path.{_≡_};
 ghost use Prim.Native.Nat.{_≤_};
 ghost use lib.ListN.{length};
-ghost use Rattle.sheet.specs.Write.{neededFor, inputCheck, writeOf, writtenTo};
+ghost use Rattle.sheet.specs.Write.{secondSize, neededFor, inputCheck, writeOf, writtenTo};
 use crate::fields;
 use crate::store;
+use judging::pair;
 use polygon::answer::Answer;
 use polygon::answer::Check;
-use polygon::checks;
 use sphere::point::Point;
+use sphere::point::is_null;
 
-fn input_check(charset: u32, name: &[u8], known: Point, vertices: &[i32]) -> Check
-    ensures { λ r. ⌜ r ≡ inputCheck charset (now (name .entry)) known (now (vertices .entry)) ⌝ }
+fn input_check(charset: u32, name: &[u8], known: Point, vertices: &[i32], second: Point) -> Check
+    ensures { λ r. ⌜ r ≡ inputCheck charset (now (name .entry)) known (now (vertices .entry)) second ⌝ }
 {
     if !fields::is_charset(charset) {
         return Check::Failed(23, 0);
@@ -20,15 +22,25 @@ fn input_check(charset: u32, name: &[u8], known: Point, vertices: &[i32]) -> Che
     if !fields::is_allowed(name.len(), 1, 120, 1) {
         return Check::Failed(22, 0);
     }
-    checks::accept_check(vertices, known)
+    pair::optional_check(vertices, known, second)
+}
+
+// The bytes of the second point's field.
+fn second_size(second: Point) -> usize
+    ensures { λ r. ⌜ (r ≡ secondSize second) × (r ≤ 15) ⌝ }
+{
+    if is_null(second) {
+        return 0;
+    }
+    15
 }
 
 // The bytes that a sheet takes.
-fn needed_for(name: &[u8], vertices: &[i32]) -> usize
+fn needed_for(name: &[u8], vertices: &[i32], second: Point) -> usize
     requires { ⌜ (length (now name) ≤ 120) × (length (now vertices) ≤ 12288) ⌝ }
-    ensures { λ r. ⌜ r ≡ neededFor (now (name .entry)) (now (vertices .entry)) ⌝ }
+    ensures { λ r. ⌜ r ≡ neededFor (now (name .entry)) (now (vertices .entry)) second ⌝ }
 {
-    32 + name.len() + vertices.len() * 4
+    32 + name.len() + vertices.len() * 4 + second_size(second)
 }
 
 // Writes a sheet into the first bytes of the buffer. A refusal changes none.
@@ -38,21 +50,23 @@ pub fn write(
     name: &[u8],
     known: Point,
     vertices: &[i32],
+    second: Point,
     buffer: &mut [u8],
 ) -> Answer
     ensures { λ r.
-        ⌜ r ≡ writeOf charset (now (name .entry)) known (now (vertices .entry)) (length (now (buffer .entry))) ⌝ }
+        ⌜ r
+        ≡ writeOf charset (now (name .entry)) known (now (vertices .entry)) second (length (now (buffer .entry))) ⌝ }
     ensures { λ _.
         ⌜ now (buffer .exit)
-        ≡ writtenTo zone charset (now (name .entry)) known (now (vertices .entry)) (now (buffer .entry)) ⌝ }
+        ≡ writtenTo zone charset (now (name .entry)) known (now (vertices .entry)) second (now (buffer .entry)) ⌝ }
 {
-    if let Check::Failed(number, place) = input_check(charset, name, known, vertices) {
+    if let Check::Failed(number, place) = input_check(charset, name, known, vertices, second) {
         return Answer::Refused(number, place);
     }
-    let needed = needed_for(name, vertices);
+    let needed = needed_for(name, vertices, second);
     if buffer.len() < needed {
         return Answer::Refused(25, needed);
     }
-    store::put_sheet(buffer, zone, charset, name, known, vertices);
+    store::put_sheet(buffer, zone, charset, name, known, vertices, second);
     Answer::Done(needed)
 }

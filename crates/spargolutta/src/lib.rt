@@ -1,9 +1,10 @@
-// The C boundary: functions over a sheet's bytes and a query's three numbers, or a feed's bytes, each returning one
-// number. Declared for C in include/spargolutta.h; nothing checks that declaration against this source. Only
-// spg_feed_number writes, and nothing is kept between calls. Assumes nothing.
+// The C boundary: functions over a sheet's bytes and a query's three numbers, or a feed's or candidates' bytes, each
+// returning one number. Declared for C in include/spargolutta.h; nothing checks that declaration against this source.
+// Only spg_feed_number writes, and nothing is kept between calls. Assumes nothing.
 ghost use mathlib.Core.Path.{_≡_};
 ghost use lib.ListN.{length};
 ghost use Rattle.polygon.specs.Answer.{numberOf, placeOf, countOf, sumOf};
+ghost use Rattle.sheet.specs.Choose.{sheetChooseOf};
 ghost use Rattle.sheet.specs.Judge.{sheetAnswerOf, sheetLookedOf, sheetFeedOf, sheetFedTo};
 ghost use Rattle.spargolutta.specs.Query.{queryOf};
 use polygon::answer::Answer;
@@ -12,6 +13,7 @@ use polygon::answer::number;
 use polygon::answer::place;
 use polygon::answer::sum;
 use polygon::vertices::wide;
+use sheet::choose::choose;
 use sheet::feed::feed;
 use sheet::feed::feed_answer;
 use sheet::judge::judge;
@@ -96,4 +98,19 @@ pub extern "C" fn spg_feed_count(sheet: &[u8], queries: &[u8], room: usize) -> u
     ensures { λ r. ⌜ r ≡ countOf (sheetFeedOf (now (sheet .entry)) (now (queries .entry)) room) ⌝ }
 {
     count(feed_answer(sheet, queries, room))
+}
+
+// Document 02, P4: which of the candidates may be stored in the sheet as its second point.
+#[no_mangle]
+pub extern "C" fn spg_choose_number(sheet: &[u8], candidates: &[u8]) -> u32
+    ensures { λ r. ⌜ r ≡ numberOf (sheetChooseOf (now (sheet .entry)) (now (candidates .entry))) ⌝ }
+{
+    number(choose(sheet, candidates))
+}
+
+#[no_mangle]
+pub extern "C" fn spg_choose_place(sheet: &[u8], candidates: &[u8]) -> usize
+    ensures { λ r. ⌜ r ≡ placeOf (sheetChooseOf (now (sheet .entry)) (now (candidates .entry))) ⌝ }
+{
+    place(choose(sheet, candidates))
 }

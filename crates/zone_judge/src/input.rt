@@ -8,7 +8,7 @@ ghost use Rattle.io.specs.Counts.{Counts};
 use libc::STDIN_FILENO;
 
 // One byte more than the longest sheet, so that a longer file is seen to be one.
-pub(crate) const SHEET_MOST: usize = 49_305;
+pub(crate) const SHEET_MOST: usize = 49_320;
 
 // The bytes of a query, and of the 4,096 queries of a piece.
 pub(crate) const QUERY: usize = 12;
@@ -16,7 +16,7 @@ pub(crate) const QUERY: usize = 12;
 pub(crate) const PIECE: usize = 49_152;
 
 // The number of the sheet's bytes, which are put at the start of `bytes`.
-pub(crate) fn read_sheet(bytes: &mut [u8; 49305]) -> usize
+pub(crate) fn read_sheet(bytes: &mut [u8; 49320]) -> usize
     ensures { λ r. ⌜ Counts r (now (bytes .exit)) ⌝ }
 {
     let fd = os::open_read(b"zone.sheet");

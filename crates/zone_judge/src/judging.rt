@@ -1,13 +1,12 @@
 // Judging the queries of standard input, piece by piece: each piece is one feed.
-// Here, in order: judge_whole, put_lines, judge_piece, judge_pieces, judge_all. Assumes nothing.
+// Here, in order: judge_whole, put_lines, judge_piece, judge_all. Assumes nothing.
 
 ghost use mathlib.Core.Path.{_≡_};
 ghost use Prim.Native.Nat.{_*_, _≤_, _<_};
 ghost use lib.ListN.{length};
 use crate::input;
 use crate::lines;
-use batch::feed;
-use sphere::point::Point;
+use sheet::feed;
 
 // Room for the lines of the 4,096 queries of a piece.
 const OUTPUT: usize = 258_048;
@@ -17,10 +16,10 @@ const QUERIES_MOST: u64 = 18_000_000_000_000_000_000;
 
 // Judges the first `size` bytes of `queries` as one feed. It is never refused: the sheet was accepted, these are whole
 // queries, and `results` is as long as `queries`.
-fn judge_whole(vertices: &[i32], known: Point, queries: &[u8], size: usize, results: &mut [u8])
+fn judge_whole(sheet: &[u8], queries: &[u8], size: usize, results: &mut [u8])
     requires { ⌜ size ≤ length (now queries) ⌝ }
 {
-    feed::judge_feed(vertices, known, &queries[..size], results);
+    feed::feed(sheet, &queries[..size], results);
 }
 
 // Puts a line for each of the first n results at the start of `out`. Where the lines end.
@@ -37,21 +36,14 @@ fn put_lines(results: &[u8], n: usize, out: &mut [u8]) -> usize
 
 // One piece: reads, judges and writes. The number of its queries, or 0 where there is nothing more to do: the input
 // ended or a write failed.
-fn judge_piece(
-    vertices: &[i32],
-    known: Point,
-    done: u64,
-    piece: &mut [u8],
-    results: &mut [u8],
-    out: &mut [u8],
-) -> u64
+fn judge_piece(sheet: &[u8], done: u64, piece: &mut [u8], results: &mut [u8], out: &mut [u8]) -> u64
     requires { ⌜ (done < 18000000000000000000) × (length (now piece) ≡ 49152) ⌝ }
     requires { ⌜ (length (now results) ≡ 49152) × (length (now out) ≡ 258048) ⌝ }
     ensures { λ r. ⌜ r ≤ 4096 ⌝ }
 {
     let size = input::read_queries(piece);
     let n = size / input::QUERY;
-    judge_whole(vertices, known, piece, n * input::QUERY, results);
+    judge_whole(sheet, piece, n * input::QUERY, results);
     let end = put_lines(results, n, out);
     if size % input::QUERY == 0 {
         if lines::print(out, end) {
@@ -64,27 +56,17 @@ fn judge_piece(
     0
 }
 
-// All of standard input, against the polygon of the first n numbers.
-fn judge_pieces(vertices: &[i32], n: usize, known: Point)
-    requires { ⌜ n ≤ length (now vertices) ⌝ }
-{
-    let polygon = &vertices[..n];
+// All of standard input, against an accepted sheet.
+pub(crate) fn judge_all(sheet: &[u8]) {
     let mut piece = [0u8; input::PIECE];
     let mut results = [0u8; input::PIECE];
     let mut out = [0u8; OUTPUT];
     let mut done: u64 = 0;
     while done < QUERIES_MOST {
-        let answered = judge_piece(polygon, known, done, &mut piece, &mut results, &mut out);
+        let answered = judge_piece(sheet, done, &mut piece, &mut results, &mut out);
         if answered == 0 {
             return;
         }
         done += answered;
     }
-}
-
-// The same, by the array that a sheet is read into.
-pub(crate) fn judge_all(vertices: &[i32; 12288], n: usize, known: Point)
-    requires { ⌜ n ≤ 12288 ⌝ }
-{
-    judge_pieces(vertices, n, known)
 }

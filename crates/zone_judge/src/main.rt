@@ -4,7 +4,7 @@
 // A refused sheet gives one line, its number, place and 0, and nothing else. A file that is missing or cannot be read
 // counts as an empty sheet. A cut query at the end gives 20, the number of whole queries before it, and 0. Reading,
 // judging and writing lie apart, in `input`, `judging` and `lines`. Proved: each function is safe and ends. What the
-// library answers is proved in `sheet`, `polygon` and `batch`. Assumes nothing.
+// library answers is proved in `sheet` and the crates under it. Assumes nothing.
 mod input;
 mod judging;
 mod lines;
@@ -22,12 +22,11 @@ fn print_refusal(refusal: Answer) {
 fn main() {
     let mut bytes = [0u8; input::SHEET_MOST];
     let size = input::read_sheet(&mut bytes);
-    let mut vertices = [0i32; 12288];
-    let zone = sheet::read::load(&bytes[..size], &mut vertices);
+    let zone = sheet::read::read(&bytes[..size]);
     let outcome = zone.answer;
     if answer::number(outcome) != 0 {
         print_refusal(outcome);
         return;
     }
-    judging::judge_all(&vertices, zone.vertex_count * 3, zone.known);
+    judging::judge_all(&bytes[..size]);
 }

@@ -1,6 +1,8 @@
-//! The calls that document 02 adds, each under its request's name.
+//! What document 02 adds to the calls, each under its request's name.
 
-use super::{answer, crossing, points, read, sides, turn, vector, verdict, Vector};
+use super::fields::{points, Zone};
+use super::geometry::{crossing, opposite, same_direction, sides, turn, vector, Vector};
+use super::{answer, outline, outline_refusal, read, verdict};
 use crate::{Answer, Point, Single};
 
 // P1. A whole feed in one call
@@ -17,10 +19,10 @@ pub fn feed(sheet: &[u8], queries: &[u8], buffer: &[u8]) -> (Answer, Vec<u8>) {
     }
     match read(sheet) {
         Err(refusal) => unchanged(refusal),
-        Ok((known, vertices)) => {
+        Ok(zone) => {
             let mut after = vec![];
             for query in points(queries) {
-                let Answer { number, place, count } = verdict(&vertices, known, query);
+                let Answer { number, place, count } = judged(&zone, query);
                 for word in [number, u32::try_from(place).expect("a side's number"), count] {
                     after.extend(word.to_be_bytes());
                 }
@@ -61,6 +63,42 @@ fn looked(answer: Answer, sides: &[(Vector, Vector)], known: Vector, query: Vect
     (0..end).filter(|side| !skipped[side / 32]).count()
 }
 
+// P4. A second known point
+
+/// The outline accepts it as a known point, it differs in direction from the first, and the first
+/// calls it inside.
+pub fn passes(zone: &Zone, candidate: Vector) -> bool {
+    outline_refusal(&zone.vertices, candidate).is_none()
+        && !same_direction(zone.known, candidate)
+        && verdict(&zone.vertices, zone.known, candidate).number == 1
+}
+
+/// The point that judges: queries opposite the first point are judged from the second.
+fn judging(zone: &Zone, query: Vector) -> Vector {
+    match zone.second {
+        Some(second) if opposite(zone.known, query) => second,
+        _ => zone.known,
+    }
+}
+
+pub fn judged(zone: &Zone, query: Vector) -> Answer {
+    verdict(&zone.vertices, judging(zone, query), query)
+}
+
+/// The earliest candidate that passes; the sheet's own second point is not looked at.
+pub fn choose(sheet: &[u8], candidates: &[u8]) -> Answer {
+    if candidates.len() % 12 != 0 {
+        return answer(10, 0, 0);
+    }
+    match outline(sheet) {
+        Err(refusal) => refusal,
+        Ok(zone) => match points(candidates).into_iter().position(|candidate| passes(&zone, candidate)) {
+            Some(place) => answer(0, place, 0),
+            None => answer(19, 0, 0),
+        },
+    }
+}
+
 // P6. Which way was the side crossed?
 
 /// The sum over all sides, 0 for boundary and refusals.
@@ -71,13 +109,13 @@ fn sum(answer: Answer, sides: &[(Vector, Vector)], known: Vector, query: Vector)
     }
 }
 
-/// What the importer's single calls fetch.
+/// What the importer's single calls fetch: all of it from the point that judges.
 pub fn single(sheet: &[u8], query: Point) -> Single {
     match read(sheet) {
         Err(answer) => Single { answer, sum: 0, looked: 0 },
-        Ok((known, vertices)) => {
-            let (sides, query) = (sides(&vertices), vector(query));
-            let answer = verdict(&vertices, known, query);
+        Ok(zone) => {
+            let (sides, query) = (sides(&zone.vertices), vector(query));
+            let (answer, known) = (judged(&zone, query), judging(&zone, query));
             let looked = looked(answer, &sides, known, query) as u32;
             Single { answer, sum: sum(answer, &sides, known, query), looked }
         }

@@ -15,7 +15,7 @@ use Rattle.polygon.specs.declared.answer.Check.the-variants.{Passed, Failed}
 use Rattle.polygon.specs.Checks.{failsHere, failsIf, acceptCheck}
 use Rattle.polygon.proofs.Laws.Checks.{here-passed, then-passed}
 use Rattle.batch.specs.Buffer.{bufferAfter}
-use Rattle.batch.specs.Feed.{neededFor, sizeCheck, feedCheck, feedOf, feedBytes, fedTo}
+use Rattle.batch.specs.Feed.{neededFor, sizeCheck, feedCheck, feedOf, noSecond, feedBytes, fedTo}
 
 -- ---- what the checks of a feed establish
 pub size-passed : (queries : List ℕ) (room : ℕ) → sizeCheck queries room ≡ Passed → neededFor queries ≤ room
@@ -45,6 +45,6 @@ module _ (limit : ℕ) (vs : List ℤ) (X : Point) (queries : List ℕ) where
     feed-refused e = record { answered = rw e; filled = rw e }
 
     pub feed-done : feedCheck limit vs X queries (length buffer) ≡ Passed →
-        Ends (Done 0) (bufferAfter Passed (feedBytes limit vs X queries) buffer)
+        Ends (Done 0) (bufferAfter Passed (feedBytes limit vs X noSecond queries) buffer)
     unfolding feedOf fedTo
     feed-done e = record { answered = rw e; filled = rw e }

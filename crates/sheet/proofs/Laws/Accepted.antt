@@ -1,21 +1,26 @@
 -- What an accepted list and known point are known to be: the checks 10, 11 and 15, in numbers.
 -- Proved, in order: whole-passed, accepted-list, accepted-known, accepted-number; fits-word, within-word (such numbers
--- fit 32 bits). Assumes nothing.
-use mathlib.Core.Path.{_≡_, refl}
-use mathlib.Core.Bool.{Bool, true, false}
+-- fit 32 bits); null-none, accepted-some; optional-check, optional-small (a second point, or none). Assumes nothing.
+use mathlib.Core.Path.{_≡_, refl, sym}
+use mathlib.Core.Bool.{Bool, true, false, true≢false}
 use mathlib.Core.List.{List}
 use Prim.Native.Nat.{ℕ, zero, suc, _+_, _*_, _/_, _%_, _≤_, _<_, zero-le}
 use native.Mathlib.Omega.{arith}
 use borrow.Author.Tests.{ltb-true, ltb-false, le-leb, eq-eqb, leb-true, eqb-true, not-false}
 use lib.Dec.{ltb}
-use lib.IntN.{ℤ, pos}
+use lib.IntN.{ℤ, pos, negsuc}
 use lib.ListN.{length, getD, List·getD-eq-default}
+use Rattle.integers.specs.Sign.{signOf, isZero}
 use Rattle.sphere.specs.declared.point.Point.{Point}
-use Rattle.sphere.specs.Point.{coarse, Fits, Within}
+use Rattle.sphere.specs.Point.{coarse, Fits, Within, isBeyond, isNull, isOffGrid}
+use Rattle.sphere.proofs.Laws.Grid.{or-right}
 use Rattle.polygon.specs.declared.answer.Check.the-variants.{Passed}
 use Rattle.polygon.specs.Vertices.{vertexCount, vertexAt}
-use Rattle.polygon.specs.Checks.{listCheck, polygonCheck, acceptCheck}
+use Rattle.polygon.specs.Checks.{listCheck, polygonCheck, referenceCheck, circleCheck, acceptCheck}
+use Rattle.polygon.specs.Pair.{secondCheck, optionalCheck}
 use Rattle.polygon.proofs.Laws.Checks.{here-passed, then-passed, accept-passed}
+use Rattle.polygon.proofs.Laws.Pair.{optional-second}
+use Rattle.batch.specs.Feed.{noSecond}
 use Rattle.sheet.proofs.Laws.Checks.{and-true}
 
 -- A list that line 10 lets through.
@@ -74,3 +79,43 @@ fits-word f = let h = f .within in record { within = omega arith }
 
 pub within-word : {p : Point} → Within coarse p → Within 2147483647 p
 within-word w = record { at-x = fits-word (w .at-x); at-y = fits-word (w .at-y); at-z = fits-word (w .at-z) }
+
+-- ---- all zero is no point, and is not accepted
+zero-is : (k : ℤ) → isZero (signOf k) ≡ true → k ≡ pos 0
+zero-is (pos zero) e = refl
+zero-is (pos (suc n)) e = absurd (true≢false (sym e))
+zero-is (negsuc n) e = absurd (true≢false (sym e))
+
+pub null-none : (p : Point) → isNull p ≡ true → p ≡ noSecond
+unfolding isNull
+null-none p e =
+    let one = and-true _ _ e in
+    let two = and-true _ _ (one .1) in
+    λ i. record {
+      x = zero-is (p .x) (one .0) i;
+      y = zero-is (p .y) (two .0) i;
+      z = zero-is (p .z) (two .1) i;
+    }
+
+pub accepted-some : (limit : ℕ) (vs : List ℤ) (Y : Point) → acceptCheck limit vs Y ≡ Passed → isNull Y ≡ false
+unfolding acceptCheck referenceCheck isOffGrid
+accepted-some limit vs Y e =
+    let after = then-passed (polygonCheck limit vs) _ e .1 in
+    let here = then-passed (referenceCheck limit Y) (circleCheck vs Y) after .0 in
+    or-right (isBeyond limit Y) (isNull Y) (here-passed 15 0 (isOffGrid limit Y) here)
+
+nought : Fits 2147483647 (pos 0)
+nought = record { within = zero-le }
+
+-- ---- a second point, or none
+module _ (vs : List ℤ) (X Y : Point) (ok : optionalCheck coarse vs X Y ≡ Passed) where
+  pub optional-check : isNull Y ≡ false → secondCheck coarse vs X Y ≡ Passed
+  unfolding optionalCheck
+  optional-check some = rw some at (then-passed (acceptCheck coarse vs X) _ ok .1)
+
+  pub optional-small : Within 2147483647 Y
+  optional-small = go (isNull Y) refl
+    where
+      go : (none : Bool) → isNull Y ≡ none → Within 2147483647 Y
+      go true e = rw (null-none Y e) (record { at-x = nought; at-y = nought; at-z = nought })
+      go false e = within-word (accepted-known coarse vs Y (optional-second coarse vs X Y ok e .accepted))

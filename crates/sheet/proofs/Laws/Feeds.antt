@@ -11,7 +11,7 @@ use Rattle.polygon.specs.declared.answer.Check.the-variants.{Passed, Failed}
 use Rattle.polygon.specs.Answer.{answerAfter}
 use Rattle.batch.specs.Buffer.{bufferAfter}
 use Rattle.batch.specs.Feed.{sizeCheck, feedBytes}
-use Rattle.sheet.specs.Sheet.{knownOf, verticesOf, sheetCheck}
+use Rattle.sheet.specs.Sheet.{knownOf, verticesOf, secondOf, sheetCheck}
 use Rattle.sheet.specs.Judge.{sheetFeedCheck, sheetFeedOf, sheetFedTo}
 use Rattle.sheet.proofs.Laws.Checks.{then-failed, then-next}
 
@@ -27,13 +27,14 @@ module _ (b queries : List ℕ) where
 
   pub record Ends (buffer : List ℕ) (check : Check) : Type 0 where
     pub answered : sheetFeedOf b queries (length buffer) ≡ answerAfter check (Done 0)
-    pub filled : sheetFedTo b queries buffer ≡ bufferAfter check (feedBytes coarse (verticesOf b) (knownOf b) queries)
-        buffer
+    pub filled : sheetFedTo b queries buffer
+        ≡ bufferAfter check (feedBytes coarse (verticesOf b) (knownOf b) (secondOf b) queries) buffer
 
   pub feed-ends : (buffer : List ℕ) {check : Check} → sheetFeedCheck b queries (length buffer) ≡ check →
       Ends buffer check
   unfolding sheetFeedOf sheetFedTo
   feed-ends buffer e = record {
     answered = ap (λ (c : Check). answerAfter c (Done 0)) e;
-    filled = ap (λ (c : Check). bufferAfter c (feedBytes coarse (verticesOf b) (knownOf b) queries) buffer) e;
+    filled =
+        ap (λ (c : Check). bufferAfter c (feedBytes coarse (verticesOf b) (knownOf b) (secondOf b) queries) buffer) e;
   }

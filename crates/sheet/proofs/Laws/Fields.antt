@@ -1,20 +1,21 @@
 -- One field. Proved, in order: field-head-missing, field-tag-wrong, field-length-wrong, field-body-missing,
 -- field-passed (what the check of a field says in each case), passed-field (and back), allowed-bounds, bounds-allowed,
--- passed-sound (a field that passed, as numbers), charset-field; passed-fields, passed-spans (a sheet whose fields
--- passed). Assumes nothing.
+-- passed-sound (a field that passed, as numbers), charset-field; passed-fields, passed-spans (a sheet whose five fields
+-- passed); five-passed, second-missing, second-passed, second-body, end-plain, end-carried, end-within (and its sixth).
+-- Assumes nothing.
 use mathlib.Core.Path.{_≡_, refl}
 use mathlib.Core.Bool.{Bool, true, false}
 use mathlib.Core.List.{List}
 use Prim.Native.Nat.{ℕ, _+_, _%_, _≤_, _<_}
 use native.Mathlib.Omega.{arith}
 use borrow.Author.Tests.{lt-ltb, le-ltb, le-leb, eq-eqb, ne-eqb, ltb-false, eqb-true, leb-true, not-false}
-use lib.ListN.{length}
+use lib.ListN.{length, List·getD-eq-default}
 use Rattle.big_endian.specs.Bytes.{byteAt, shortAt}
 use Rattle.polygon.specs.declared.answer.Check.the-variants.{Passed, Failed}
 use Rattle.polygon.proofs.Laws.Checks.{here-passed, then-passed}
 use Rattle.sheet.specs.Fields.{isAllowed, fieldCheck, fieldEnd, charsetStart, nameStart, knownStart}
-use Rattle.sheet.specs.Fields.{verticesStart, sheetEnd, zoneCheck, charsetCheck, nameCheck, knownCheck}
-use Rattle.sheet.specs.Fields.{verticesCheck, sheetFields}
+use Rattle.sheet.specs.Fields.{verticesStart, secondStart, hasSecond, sheetEnd, zoneCheck, charsetCheck}
+use Rattle.sheet.specs.Fields.{nameCheck, knownCheck, verticesCheck, fiveFields, secondField, sheetFields}
 use Rattle.sheet.proofs.Laws.Checks.{and-true}
 
 -- What is so of a field that passes.
@@ -106,7 +107,7 @@ pub charset-field : (b : List ℕ) → charsetCheck b ≡ Passed → fieldCheck 
 unfolding charsetCheck
 charset-field b e = then-passed _ _ e .0
 
--- ---- a sheet whose fields passed
+-- ---- a sheet whose five fields passed
 
 pub record Fields (b : List ℕ) : Type 0 where
   pub zone : zoneCheck b ≡ Passed
@@ -115,8 +116,8 @@ pub record Fields (b : List ℕ) : Type 0 where
   pub known : knownCheck b ≡ Passed
   pub vertices : verticesCheck b ≡ Passed
 
-pub passed-fields : (b : List ℕ) → sheetFields b ≡ Passed → Fields b
-unfolding sheetFields
+pub passed-fields : (b : List ℕ) → fiveFields b ≡ Passed → Fields b
+unfolding fiveFields
 passed-fields b e =
     let one = then-passed _ _ e in
     let two = then-passed _ _ (one .1) in
@@ -129,10 +130,10 @@ pub record Spans (b : List ℕ) : Type 0 where
   pub name : Allowed 1 120 1 (shortAt b 12)
   pub known-at : knownStart b ≡ 14 + shortAt b 12
   pub row : Allowed 36 49152 12 (shortAt b (verticesStart b + 1))
-  pub end-at : sheetEnd b ≡ knownStart b + 18 + shortAt b (verticesStart b + 1)
-  pub ends : sheetEnd b ≤ length b
+  pub second-at : secondStart b ≡ knownStart b + 18 + shortAt b (verticesStart b + 1)
+  pub ends : secondStart b ≤ length b
 
-pub passed-spans : (b : List ℕ) → sheetFields b ≡ Passed → Spans b
+pub passed-spans : (b : List ℕ) → fiveFields b ≡ Passed → Spans b
 unfolding fieldEnd
 passed-spans b e =
     let f = passed-fields b e in
@@ -141,6 +142,44 @@ passed-spans b e =
       name = passed-sound 3 1 120 1 b nameStart (f .name) .size;
       known-at = refl;
       row = v .size;
-      end-at = omega arith;
+      second-at = omega arith;
       ends = v .ends;
     }
+
+-- ---- and its sixth, if there is one
+
+module _ (b : List ℕ) where
+  pub five-passed : sheetFields b ≡ Passed → fiveFields b ≡ Passed
+  unfolding sheetFields
+  five-passed e = then-passed (fiveFields b) (secondField b) e .0
+
+  -- Past the end there is no byte 6.
+  pub second-missing : length b ≤ secondStart b → hasSecond b ≡ false
+  unfolding hasSecond
+  second-missing h = rw (List·getD-eq-default b 0 h)
+
+  pub second-passed : sheetFields b ≡ Passed → hasSecond b ≡ true → Field 6 (isAllowed 12 12 1) b (secondStart b)
+  unfolding sheetFields secondField
+  second-passed e has =
+      passed-field 6 (isAllowed 12 12 1) b (secondStart b)
+      (rw has at (then-passed (fiveFields b) (secondField b) e .1))
+
+  pub second-body : sheetFields b ≡ Passed → hasSecond b ≡ true → secondStart b + 15 ≤ length b
+  unfolding fieldEnd
+  second-body e has =
+      let f = second-passed e has in
+      let a = allowed-bounds 12 12 1 _ (f .allowed) in
+      omega (arith, f .body)
+
+  pub end-plain : hasSecond b ≡ false → sheetEnd b ≡ secondStart b
+  end-plain e = rw e
+
+  pub end-carried : hasSecond b ≡ true → sheetEnd b ≡ secondStart b + 15
+  end-carried e = rw e
+
+  pub end-within : sheetFields b ≡ Passed → sheetEnd b ≤ length b
+  end-within e = go (hasSecond b) refl
+    where
+      go : (t : Bool) → hasSecond b ≡ t → sheetEnd b ≤ length b
+      go true has = omega (arith, end-carried has, second-body e has)
+      go false has = omega (arith, end-plain has, passed-spans b (five-passed e) .ends)

@@ -1,8 +1,8 @@
 -- The numbers of the refusals: a check that fails has a number above the given one, so it is told from success and
--- from 10. Defined: Above. Proved, in order: above-then, above-here; above-fields, above-accept, above-sheet (reading:
--- above 10), above-write (writing: above 9). Assumes nothing.
+-- from 10. Defined: Above. Proved, in order: above-then, above-here; above-fields, above-accept, above-second,
+-- above-sheet (reading: above 10), above-write (writing: above 9). Assumes nothing.
 use mathlib.Core.Path.{_≡_, refl, sym}
-use mathlib.Core.Bool.{Bool, true, false, not}
+use mathlib.Core.Bool.{Bool, true, false, not, cond}
 use mathlib.Core.List.{List}
 use Prim.Native.Nat.{ℕ, _+_, _*_, _<_}
 use native.Mathlib.Omega.{arith}
@@ -24,12 +24,15 @@ use Rattle.polygon.specs.Search.{firstFrom}
 use Rattle.polygon.specs.Vertices.{vertexCount, vertexAt, startOf, endOf}
 use Rattle.polygon.specs.Checks.{_then_, failsHere, failsAt, isVertexList, listCheck, beyondCheck, nullCheck}
 use Rattle.polygon.specs.Checks.{sameCheck, antipodalCheck, referenceCheck, circleCheck, polygonCheck, acceptCheck}
-use Rattle.polygon.proofs.Laws.Checks.{failed-not-passed, then-passed}
+use Rattle.polygon.specs.Pair.{isSecond, secondCheck, optionalCheck}
+use Rattle.polygon.proofs.Laws.Checks.{failed-not-passed}
 use Rattle.sheet.specs.Fields.{isAllowed, isCharset, fieldEnd, fieldCheck, knownStart, verticesStart}
-use Rattle.sheet.specs.Fields.{sheetEnd, charsetCheck, sheetFields, restCheck, fieldsCheck}
-use Rattle.sheet.specs.Sheet.{knownOf, vertexCountOf, verticesOf, sheetCheck}
+use Rattle.sheet.specs.Fields.{secondStart, hasSecond, sheetEnd, charsetCheck, fiveFields, secondField}
+use Rattle.sheet.specs.Fields.{sheetFields, restCheck, fieldsCheck}
+use Rattle.sheet.specs.Sheet.{knownOf, vertexCountOf, verticesOf, secondOf, plainCheck, carriedCheck, sheetCheck}
 use Rattle.sheet.specs.Write.{neededFor, inputCheck, writeCheck}
 use Rattle.sheet.proofs.Laws.Fields.{passed-spans}
+use Rattle.sheet.proofs.Laws.Reads.{fields-five}
 use Rattle.sheet.proofs.Laws.Accepted.{Whole, whole-passed}
 
 -- If the check fails, its number is above m.
@@ -75,14 +78,23 @@ above-charset : (b : List ℕ) → Above 10 (charsetCheck b)
 unfolding charsetCheck
 above-charset b = above-field 2 (isAllowed 1 1 1) b 7 both above-here 23 7 (not (isCharset (byteAt b 10))) (lit< tt)
 
+above-if : {m : ℕ} {c : Check} (t : Bool) → Above m c → Above m (cond t c Passed)
+above-if true h = h
+above-if false h = passed-above
+
+above-sixth : (b : List ℕ) → Above 10 (secondField b)
+unfolding secondField
+above-sixth b = above-if (hasSecond b) (above-field 6 (isAllowed 12 12 1) b (secondStart b))
+
 pub above-fields : (b : List ℕ) → Above 10 (fieldsCheck b)
-unfolding fieldsCheck sheetFields restCheck
+unfolding fieldsCheck sheetFields fiveFields restCheck
 above-fields b =
-    (above-field 1 (isAllowed 4 4 1) b 0
+    ((above-field 1 (isAllowed 4 4 1) b 0
     both above-charset b
     both above-field 3 (isAllowed 1 120 1) b 11
     both above-field 4 (isAllowed 12 12 1) b (knownStart b)
     both above-field 5 (isAllowed 36 49152 12) b (verticesStart b))
+    both above-sixth b)
     both above-here 24 (sheetEnd b) (ltb (sheetEnd b) (length b)) (lit< tt)
 
 -- ---- the polygon and its known point: 10 to 16, or 11 to 16 where 10 cannot be
@@ -122,28 +134,37 @@ module _ (m limit : ℕ) (vs : List ℤ) (X : Point) (h : m < 11) where
       both above-reference
       both above-circle
 
+-- ---- the second point: 19
+pub above-second : (m limit : ℕ) (vs : List ℤ) (X Y : Point) → m < 19 → Above m (secondCheck limit vs X Y)
+unfolding secondCheck
+above-second m limit vs X Y h = above-here 19 0 (not (isSecond limit vs X Y)) h
+
+above-unless : {m : ℕ} {c : Check} (t : Bool) → Above m c → Above m (cond t Passed c)
+above-unless true h = passed-above
+above-unless false h = h
+
 -- ---- reading and writing
 list-above : (b : List ℕ) → fieldsCheck b ≡ Passed → Above 10 (listCheck (verticesOf b))
-unfolding fieldsCheck
 list-above b e =
-    let sound = then-passed (sheetFields b) (restCheck b) e .0 in
-    let s = passed-spans b sound in
+    let s = passed-spans b (fields-five b e) in
     let n = intsAt-length b (verticesStart b + 3) (vertexCountOf b * 3) in
     let l : Whole (verticesOf b) = record { threes = omega arith; least = omega arith; most = omega arith } in
     rw (whole-passed (verticesOf b) l) passed-above
 
 pub above-sheet : (b : List ℕ) → Above 10 (sheetCheck b)
-unfolding sheetCheck
+unfolding sheetCheck plainCheck carriedCheck
 above-sheet b =
     above-then (fieldsCheck b) (acceptCheck coarse (verticesOf b) (knownOf b)) (above-fields b)
     (λ e. above-accept 10 coarse (verticesOf b) (knownOf b) (lit< tt) (list-above b e))
+    both above-if (hasSecond b) (above-second 10 coarse (verticesOf b) (knownOf b) (secondOf b) (lit< tt))
 
 pub above-write :
-    (charset : ℕ) (name : List ℕ) (known : Point) (vertices : List ℤ) (room : ℕ) →
-    Above 9 (writeCheck charset name known vertices room)
-unfolding writeCheck inputCheck listCheck
-above-write charset name known vertices room =
+    (charset : ℕ) (name : List ℕ) (known : Point) (vertices : List ℤ) (second : Point) (room : ℕ) →
+    Above 9 (writeCheck charset name known vertices second room)
+unfolding writeCheck inputCheck optionalCheck listCheck
+above-write charset name known vertices second room =
     (above-here 23 0 (not (isCharset charset)) (lit< tt)
     both above-here 22 0 (not (isAllowed 1 120 1 (length name))) (lit< tt)
-    both above-accept 9 coarse vertices known (lit< tt) (above-here 10 0 (not (isVertexList vertices)) (lit< tt)))
-    both above-here 25 (neededFor name vertices) (ltb room (neededFor name vertices)) (lit< tt)
+    both above-accept 9 coarse vertices known (lit< tt) (above-here 10 0 (not (isVertexList vertices)) (lit< tt))
+    both above-unless (isNull second) (above-second 9 coarse vertices known second (lit< tt)))
+    both above-here 25 (neededFor name vertices second) (ltb room (neededFor name vertices second)) (lit< tt)

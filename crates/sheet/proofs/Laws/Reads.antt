@@ -1,46 +1,109 @@
--- What reading hands back and leaves, case by case. Proved, in order: fields-sound, sheet-passed, sheet-sound,
--- sheet-unsound, sheet-polygon; read-refused, read-accepted; loaded-by, decoded-by, loaded-row, loaded-room,
--- opened-row, opened-room. Assumes
--- nothing.
-use mathlib.Core.Path.{_≡_, ap, ap₂, _∙_}
+-- What reading hands back and leaves, case by case. Proved, in order: fields-sound, fields-five, plain-passed,
+-- plain-five, plain-unsound, plain-polygon; carried-none, carried-second; sheet-plain, sheet-fields, sheet-five,
+-- sheet-accepted, sheet-optional, sheet-failed, sheet-carried; read-refused, read-accepted; loaded-by, decoded-by,
+-- loaded-row, loaded-room, opened-row, opened-room. Assumes nothing.
+use mathlib.Core.Path.{_≡_, refl, sym, ap, ap₂, _∙_}
+use mathlib.Core.Bool.{Bool, true, false, cond}
 use mathlib.Core.List.{List, _++_}
 use Prim.Native.Nat.{ℕ, _+_, _*_, _≤_}
 use native.Mathlib.Omega.{arith}
 use lib.IntN.{ℤ}
 use lib.ListN.{length, take, length-append}
 use lib.Seq.{take-at}
-use Rattle.sphere.specs.Point.{coarse}
+use Rattle.sphere.specs.Point.{coarse, isNull}
+use Rattle.big_endian.specs.Bytes.{pointAt}
 use Rattle.big_endian.proofs.Laws.Rows.{intsAt-length}
 use Rattle.polygon.specs.declared.answer.Check.{Check}
 use Rattle.polygon.specs.declared.answer.Check.the-variants.{Passed, Failed}
-use Rattle.polygon.specs.Checks.{acceptCheck}
+use Rattle.polygon.specs.Checks.{_then_, acceptCheck}
+use Rattle.polygon.specs.Pair.{secondCheck, optionalCheck}
 use Rattle.polygon.proofs.Laws.Checks.{then-passed}
-use Rattle.sheet.specs.Fields.{verticesStart, sheetFields, restCheck, fieldsCheck}
-use Rattle.sheet.specs.Sheet.{knownOf, vertexCountOf, verticesOf, sheetCheck, refusedSheet, readAfter, readOf}
-use Rattle.sheet.specs.Sheet.{loadedAfter, loadedOf, decodedOf}
+use Rattle.batch.specs.Feed.{noSecond}
+use Rattle.batch.proofs.Laws.From.{none-null}
+use Rattle.sheet.specs.Fields.{verticesStart, secondStart, hasSecond, fiveFields, sheetFields, restCheck}
+use Rattle.sheet.specs.Fields.{fieldsCheck}
+use Rattle.sheet.specs.Sheet.{knownOf, vertexCountOf, verticesOf, secondOf, plainCheck, carriedCheck, sheetCheck}
+use Rattle.sheet.specs.Sheet.{refusedSheet, readAfter, readOf, loadedAfter, loadedOf, decodedOf}
 use Rattle.sheet.proofs.Laws.Checks.{then-failed, then-next}
+use Rattle.sheet.proofs.Laws.Fields.{five-passed}
 
 module _ (b : List ℕ) where
   pub fields-sound : fieldsCheck b ≡ Passed → sheetFields b ≡ Passed
   unfolding fieldsCheck
   fields-sound e = then-passed (sheetFields b) (restCheck b) e .0
 
-  -- A sheet that passed: its fields are sound and its polygon is accepted.
-  pub sheet-passed :
-      sheetCheck b ≡ Passed → (fieldsCheck b ≡ Passed) × (acceptCheck coarse (verticesOf b) (knownOf b) ≡ Passed)
-  unfolding sheetCheck
-  sheet-passed e = then-passed (fieldsCheck b) (acceptCheck coarse (verticesOf b) (knownOf b)) e
+  pub fields-five : fieldsCheck b ≡ Passed → fiveFields b ≡ Passed
+  fields-five e = five-passed b (fields-sound e)
 
-  pub sheet-sound : sheetCheck b ≡ Passed → sheetFields b ≡ Passed
-  sheet-sound e = fields-sound (sheet-passed e .0)
+  -- ---- without the second point: the fields are sound and the polygon is accepted
+  pub plain-passed :
+      plainCheck b ≡ Passed → (fieldsCheck b ≡ Passed) × (acceptCheck coarse (verticesOf b) (knownOf b) ≡ Passed)
+  unfolding plainCheck
+  plain-passed e = then-passed (fieldsCheck b) (acceptCheck coarse (verticesOf b) (knownOf b)) e
 
-  pub sheet-unsound : {n p : ℕ} → fieldsCheck b ≡ Failed n p → sheetCheck b ≡ Failed n p
-  unfolding sheetCheck
-  sheet-unsound e = then-failed _ e
+  pub plain-five : plainCheck b ≡ Passed → fiveFields b ≡ Passed
+  plain-five e = fields-five (plain-passed e .0)
 
-  pub sheet-polygon : fieldsCheck b ≡ Passed → sheetCheck b ≡ acceptCheck coarse (verticesOf b) (knownOf b)
+  pub plain-unsound : {n p : ℕ} → fieldsCheck b ≡ Failed n p → plainCheck b ≡ Failed n p
+  unfolding plainCheck
+  plain-unsound e = then-failed _ e
+
+  pub plain-polygon : fieldsCheck b ≡ Passed → plainCheck b ≡ acceptCheck coarse (verticesOf b) (knownOf b)
+  unfolding plainCheck
+  plain-polygon e = then-next _ e
+
+  -- ---- the second point
+  pub carried-none : hasSecond b ≡ false → (secondOf b ≡ noSecond) × (carriedCheck b ≡ Passed)
+  unfolding secondOf carriedCheck
+  carried-none e = (rw e, rw e)
+
+  pub carried-second : hasSecond b ≡ true →
+      (secondOf b ≡ pointAt b (secondStart b + 3))
+      × (carriedCheck b ≡ secondCheck coarse (verticesOf b) (knownOf b) (secondOf b))
+  unfolding secondOf carriedCheck
+  carried-second e = (rw e, rw e)
+
+  -- ---- with it
+  pub sheet-failed : {n p : ℕ} → plainCheck b ≡ Failed n p → sheetCheck b ≡ Failed n p
   unfolding sheetCheck
-  sheet-polygon e = then-next _ e
+  sheet-failed e = then-failed _ e
+
+  pub sheet-carried : plainCheck b ≡ Passed → sheetCheck b ≡ carriedCheck b
+  unfolding sheetCheck
+  sheet-carried e = then-next _ e
+
+  module _ (e : sheetCheck b ≡ Passed) where
+    pub sheet-plain : plainCheck b ≡ Passed
+    unfolding sheetCheck
+    sheet-plain = then-passed (plainCheck b) (carriedCheck b) e .0
+
+    pub sheet-fields : fieldsCheck b ≡ Passed
+    sheet-fields = plain-passed sheet-plain .0
+
+    pub sheet-sound : sheetFields b ≡ Passed
+    sheet-sound = fields-sound sheet-fields
+
+    pub sheet-five : fiveFields b ≡ Passed
+    sheet-five = fields-five sheet-fields
+
+    pub sheet-accepted : acceptCheck coarse (verticesOf b) (knownOf b) ≡ Passed
+    sheet-accepted = plain-passed sheet-plain .1
+
+    -- Its points are accepted, one or both.
+    pub sheet-optional : optionalCheck coarse (verticesOf b) (knownOf b) (secondOf b) ≡ Passed
+    unfolding sheetCheck optionalCheck
+    sheet-optional = go (hasSecond b) refl (then-passed (plainCheck b) (carriedCheck b) e .1)
+      where
+        either : (none : Bool) {c : Check} → c ≡ Passed → cond none Passed c ≡ Passed
+        either true p = refl
+        either false p = p
+
+        go : (t : Bool) → hasSecond b ≡ t → carriedCheck b ≡ Passed →
+            (acceptCheck coarse (verticesOf b) (knownOf b)
+            then cond (isNull (secondOf b)) Passed (secondCheck coarse (verticesOf b) (knownOf b) (secondOf b)))
+            ≡ Passed
+        go true has ok = rw sheet-accepted (either (isNull (secondOf b)) (sym (carried-second has .1) ∙ ok))
+        go false has ok = rw (sheet-accepted, carried-none has .0, none-null)
 
   pub read-refused : {n p : ℕ} → sheetCheck b ≡ Failed n p → readOf b ≡ refusedSheet n p
   unfolding readOf
@@ -70,10 +133,10 @@ module _ (b : List ℕ) where
       omega arith
 
   -- ---- the scratch space after the checks of a sheet that passed
-  module _ (scratch : List ℤ) {left : List ℤ} (e : sheetCheck b ≡ Passed) (d : left ≡ decodedOf b scratch) {n : ℕ}
+  module _ (scratch : List ℤ) {left : List ℤ} (e : fieldsCheck b ≡ Passed) (d : left ≡ decodedOf b scratch) {n : ℕ}
       (k : n ≡ vertexCountOf b) where
     front : left ≡ loadedAfter Passed b scratch
-    front = d ∙ decoded-by scratch (sheet-passed e .0)
+    front = d ∙ decoded-by scratch e
 
     pub opened-row : take (n * 3) left ≡ verticesOf b
     opened-row = ap₂ (λ (k : ℕ) (l : List ℤ). take (k * 3) l) k front ∙ loaded-row _

@@ -15,19 +15,22 @@ use Rattle.sphere.specs.Point.{coarse}
 use Rattle.polygon.specs.declared.answer.Answer.{Answer}
 use Rattle.polygon.specs.declared.answer.Answer.the-variants.{Done, Refused}
 use Rattle.polygon.specs.declared.answer.Check.the-variants.{Passed, Failed}
+use Rattle.polygon.specs.Checks.{acceptCheck}
+use Rattle.polygon.specs.Pair.{optionalCheck}
 use Rattle.polygon.proofs.Laws.Checks.{here-passed, then-passed}
+use Rattle.polygon.proofs.Laws.Pair.{optional-first}
 use Rattle.sheet.specs.Fields.{isCharset}
 use Rattle.sheet.specs.Write.{sheetBytes, neededFor, Storable, inputCheck, writeCheck, writeOf, writtenTo}
 use Rattle.sheet.proofs.Laws.Checks.{and-true, then-failed, then-next}
 use Rattle.sheet.proofs.Laws.Fields.{allowed-bounds}
-use Rattle.sheet.proofs.Laws.Accepted.{accepted-list, accepted-known, within-word}
+use Rattle.sheet.proofs.Laws.Accepted.{accepted-list, accepted-known, within-word, optional-small}
 use Rattle.sheet.proofs.Laws.Written.{Writable}
 use Rattle.sheet.proofs.Laws.Stores.{sheetBytes-length}
 
-module _ (charset : ℕ) (name : List ℕ) (known : Point) (vertices : List ℤ) where
+module _ (charset : ℕ) (name : List ℕ) (known : Point) (vertices : List ℤ) (second : Point) where
   pub passed-writable :
-      (zone : ℕ) → zone < 4294967296 → inputCheck charset name known vertices ≡ Passed →
-      Writable zone charset name known vertices
+      (zone : ℕ) → zone < 4294967296 → inputCheck charset name known vertices second ≡ Passed →
+      Writable zone charset name known vertices second
   unfolding inputCheck
   passed-writable zone small e =
       let one = then-passed _ _ e in
@@ -36,14 +39,17 @@ module _ (charset : ℕ) (name : List ℕ) (known : Point) (vertices : List ℤ)
         small = small;
         coded = not-false _ (here-passed 23 0 _ (one .0));
         named = not-false _ (here-passed 22 0 _ (two .0));
-        accepted = two .1;
+        paired = two .1;
       }
 
-  module _ (ok : inputCheck charset name known vertices ≡ Passed) where
+  known-accepted : optionalCheck coarse vertices known second ≡ Passed → acceptCheck coarse vertices known ≡ Passed
+  known-accepted e = optional-first coarse vertices known second e
+
+  module _ (ok : inputCheck charset name known vertices second ≡ Passed) where
     pub input-sizes : (length name ≤ 120) × (length vertices ≤ 12288)
     input-sizes =
         let w = passed-writable 0 (omega arith) ok in
-        let l = accepted-list coarse vertices known (w .accepted) in
+        let l = accepted-list coarse vertices known (known-accepted (w .paired)) in
         let n = allowed-bounds 1 120 1 (length name) (w .named) in
         (omega arith, omega arith)
 
@@ -54,14 +60,16 @@ module _ (charset : ℕ) (name : List ℕ) (known : Point) (vertices : List ℤ)
         let h = leb-true charset 3 (and-true (leb 1 charset) (leb charset 3) (w .coded) .1) in
         omega arith
 
-    pub input-storable : (room : ℕ) → neededFor name vertices ≤ room → Storable charset name known vertices room
+    pub input-storable : (room : ℕ) → neededFor name vertices second ≤ room →
+        Storable charset name known vertices second room
     input-storable room h =
         let w = passed-writable 0 (omega arith) ok in
         record {
           charset-small = charset-small;
           name-short = input-sizes .0;
-          known-small = within-word (accepted-known coarse vertices known (w .accepted));
+          known-small = within-word (accepted-known coarse vertices known (known-accepted (w .paired)));
           row-short = input-sizes .1;
+          second-small = optional-small vertices known second (w .paired);
           enough = h;
         }
 
@@ -69,35 +77,40 @@ module _ (charset : ℕ) (name : List ℕ) (known : Point) (vertices : List ℤ)
   module _ (zone : ℕ) (buffer : List ℕ) where
     -- The answer and the buffer after writing.
     pub record Ends (answer : Answer) (left : List ℕ) : Type 0 where
-      pub answered : writeOf charset name known vertices (length buffer) ≡ answer
-      pub filled : writtenTo zone charset name known vertices buffer ≡ left
+      pub answered : writeOf charset name known vertices second (length buffer) ≡ answer
+      pub filled : writtenTo zone charset name known vertices second buffer ≡ left
 
     failed-ends :
-        {n p : ℕ} → writeCheck charset name known vertices (length buffer) ≡ Failed n p → Ends (Refused n p) buffer
+        {n p : ℕ} → writeCheck charset name known vertices second (length buffer) ≡ Failed n p →
+        Ends (Refused n p) buffer
     unfolding writeOf writtenTo
     failed-ends e = record { answered = rw e; filled = rw e }
 
-    pub write-refused : {n p : ℕ} → inputCheck charset name known vertices ≡ Failed n p → Ends (Refused n p) buffer
+    pub write-refused :
+        {n p : ℕ} → inputCheck charset name known vertices second ≡ Failed n p → Ends (Refused n p) buffer
     unfolding writeCheck
     write-refused e = failed-ends (then-failed _ e)
 
-    module _ (ok : inputCheck charset name known vertices ≡ Passed) where
-      pub write-short : length buffer < neededFor name vertices → Ends (Refused 25 (neededFor name vertices)) buffer
+    module _ (ok : inputCheck charset name known vertices second ≡ Passed) where
+      pub write-short :
+          length buffer < neededFor name vertices second → Ends (Refused 25 (neededFor name vertices second)) buffer
       unfolding writeCheck
-      write-short h = failed-ends (then-next _ ok ∙ rw (lt-ltb (length buffer) (neededFor name vertices) h))
+      write-short h = failed-ends (then-next _ ok ∙ rw (lt-ltb (length buffer) (neededFor name vertices second) h))
 
       enough-passed :
-          neededFor name vertices ≤ length buffer → writeCheck charset name known vertices (length buffer) ≡ Passed
+          neededFor name vertices second ≤ length buffer →
+          writeCheck charset name known vertices second (length buffer) ≡ Passed
       unfolding writeCheck
-      enough-passed h = then-next _ ok ∙ rw (le-ltb (length buffer) (neededFor name vertices) h)
+      enough-passed h = then-next _ ok ∙ rw (le-ltb (length buffer) (neededFor name vertices second) h)
 
       pub write-done :
-          neededFor name vertices ≤ length buffer →
-          Ends (Done (neededFor name vertices)) (sets buffer 0 (sheetBytes zone charset name known vertices))
+          neededFor name vertices second ≤ length buffer →
+          Ends (Done (neededFor name vertices second))
+          (sets buffer 0 (sheetBytes zone charset name known vertices second))
       unfolding writeOf writtenTo
       write-done h =
-          let sheet = sheetBytes zone charset name known vertices in
-          let n = sheetBytes-length zone charset name known vertices in
+          let sheet = sheetBytes zone charset name known vertices second in
+          let n = sheetBytes-length zone charset name known vertices second in
           let z : 0 + length sheet ≡ length sheet = omega arith in
           let stored = sets-eq sheet buffer 0 (omega arith) ∙ ap (λ (k : ℕ). sheet ++ drop k buffer) z in
           record { answered = rw (enough-passed h); filled = rw (enough-passed h) (sym stored) }

@@ -1,16 +1,23 @@
 -- `judge_all` meets its contract. Assumes nothing.
 use borrow.Author.Needs.{needs}
+use Rattle.sphere.specs.Point.{coarse}
+use Rattle.polygon.specs.Accepted.{Accepted}
 use Rattle.polygon.proofs.Laws.Checks.{accept-passed}
+use Rattle.polygon.proofs.Laws.Pair.{optional-first}
 use Rattle.judging.proofs.Laws.Stored.{stored-boxed}
 use Rattle.batch.proofs.feed.judge_all.Statement.{statement}
 use Rattle.batch.proofs.feed.judge_all.Tie as tie
+
+accepted : (c : tie.Start) → Accepted coarse (c .args .vertices .now) (c .args .known)
+accepted c =
+    accept-passed (optional-first coarse (c .args .vertices .now) (c .args .known) (c .args .second) (c .pre .0))
 
 slice-aggregate-fill : tie.Need-slice-aggregate-fill
 slice-aggregate-fill c = search needs
 
 fill-requires : tie.Need-fill-requires
 fill-requires c κs =
-    let a = accept-passed (c .before .before .before .pre .0) in (a .listed, a .gridded, search needs)
+    let a = accepted (c .before .before .before) in (a .listed, a .gridded, search needs)
 
 slice-aggregate-judge-each : tie.Need-slice-aggregate-judge-each
 slice-aggregate-judge-each c = search needs
@@ -19,7 +26,7 @@ judge-each-requires : tie.Need-judge-each-requires
 judge-each-requires c κs =
     let f = c .before .before .before in
     let s = f .before .before .before .before in
-    let a = accept-passed (s .pre .0) in (
+    let a = accepted s in (
       (s .pre .0, rw (f .fill .ensures) (stored-boxed (s .args .vertices .now) _ (a .listed) (search needs))),
       s .pre .1,
     )

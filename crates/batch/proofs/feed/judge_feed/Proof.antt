@@ -4,7 +4,8 @@ use borrow.Author.Needs.{needs}
 use lib.ListN.{length}
 use Rattle.sphere.specs.Point.{coarse}
 use Rattle.polygon.specs.declared.answer.Check.the-variants.{Passed}
-use Rattle.batch.specs.Feed.{feedCheck}
+use Rattle.batch.specs.Feed.{feedCheck, noSecond}
+use Rattle.batch.proofs.Laws.From.{optional-none}
 use Rattle.batch.proofs.Laws.Fed.{fed-stored}
 use Rattle.batch.proofs.Laws.Ends.{feed-passed, feed-refused, feed-done}
 use Rattle.batch.proofs.feed.judge_feed.Statement.{statement}
@@ -34,7 +35,8 @@ returns c =
 judge-all-requires : tie.Need-judge-all-requires
 judge-all-requires c κs =
     let s = c .before .before .before .before .before .before .args in
-    feed-passed coarse (s .vertices .now) (s .known) (s .queries .now) _ (passed (c .before))
+    let two = feed-passed coarse (s .vertices .now) (s .known) (s .queries .now) _ (passed (c .before)) in
+    (optional-none coarse (s .vertices .now) (s .known) (two .0), two .1)
 
 same-length : tie.Need-same-length
 same-length c = search needs
@@ -45,7 +47,7 @@ returns-2 c =
     let s = d .before .before .before .before .before .args in
     let w = feed-done coarse (s .vertices .now) (s .known) (s .queries .now) (s .results .now) (passed d) in
     let enough = feed-passed coarse (s .vertices .now) (s .known) (s .queries .now) _ (passed d) .1 in
-    let stored = fed-stored coarse (s .vertices .now) (s .known) (s .queries .now) (s .results .now) enough in
+    let stored = fed-stored coarse (s .vertices .now) (s .known) noSecond (s .queries .now) (s .results .now) enough in
     (sym (w .answered), c .before .before .judge-all .ensures ∙ stored ∙ sym (w .filled))
 
 pub judge-feed-spec : {M : Type 1} → statement M

@@ -4,21 +4,27 @@ use native.Mathlib.Omega.{arith}
 use borrow.Author.Needs.{needs}
 use Rattle.sphere.specs.Point.{coarse}
 use Rattle.polygon.specs.Verdict.{answerOf}
-use Rattle.judging.specs.Walk.{judgementOf}
+use Rattle.polygon.specs.Pair.{judgeFrom, calledOf}
+use Rattle.polygon.proofs.Laws.Pair.{called-judged}
+use Rattle.judging.specs.Called.{calledJudgementOf}
 use Rattle.batch.specs.Feed.{queryAt}
 use Rattle.batch.proofs.Laws.Small.{answer-small}
+use Rattle.batch.proofs.Laws.From.{from-accepted}
 use Rattle.batch.proofs.feed.judge_one.Statement.{statement}
 use Rattle.batch.proofs.feed.judge_one.Tie as tie
 
 -- The single call's answer.
-answered : (c : tie.After-judge-boxed) →
+answered : (c : tie.After-judge-called-boxed) →
     let s = c .before .before .before .before .args in
-    c .judge-boxed .result .answer ≡ answerOf coarse (s .vertices .now) (s .known) (queryAt (s .queries .now) (s .i))
-unfolding judgementOf
+    let P = queryAt (s .queries .now) (s .i) in
+    c .judge-called-boxed .result .answer ≡ answerOf coarse (s .vertices .now) (judgeFrom (s .known) (s .second) P) P
+unfolding calledJudgementOf
 answered c =
-    let s = c .before .before .before .before .args in
-    ap (λ j. j .answer) (c .judge-boxed .ensures)
-    ∙ ap (answerOf coarse (s .vertices .now) (s .known)) (c .before .point-at .ensures)
+    let start = c .before .before .before .before in
+    let s = start .args in
+    ap (λ j. j .answer) (c .judge-called-boxed .ensures)
+    ∙ ap (calledOf coarse (s .vertices .now) (s .known) (s .second)) (c .before .point-at .ensures)
+    ∙ called-judged coarse (s .vertices .now) (s .known) (s .second) _ (start .pre .0 .0)
 
 mul-at : tie.Need-mul-at
 mul-at c = search needs
@@ -26,14 +32,15 @@ mul-at c = search needs
 point-at-requires : tie.Need-point-at-requires
 point-at-requires c κs = search needs
 
-judge-boxed-requires : tie.Need-judge-boxed-requires
-judge-boxed-requires c κs = search needs
+judge-called-boxed-requires : tie.Need-judge-called-boxed-requires
+judge-called-boxed-requires c κs = search needs
 
 store-result-requires : tie.Need-store-result-requires
 store-result-requires c κs =
     let s = c .before .before .before .before .before in
-    let small = answer-small coarse (s .args .vertices .now) (s .args .known) (s .pre .0 .0) in
-    (omega arith, rw (answered (c .before)) (small _ .place))
+    let i = s .args in
+    let accepted = from-accepted coarse (i .vertices .now) (i .known) (i .second) (s .pre .0 .0) _ in
+    (omega arith, rw (answered (c .before)) (answer-small coarse (i .vertices .now) _ accepted _ .place))
 
 same-length : tie.Need-same-length
 same-length c = search needs
@@ -47,7 +54,7 @@ judge-one-spec =
     (tie.spec
     mul-at
     point-at-requires
-    judge-boxed-requires
+    judge-called-boxed-requires
     store-result-requires
     same-length
     returns)

@@ -8,7 +8,7 @@ use Rattle.charts.proofs.largest.read_ring.Tie as tie
 slice-aggregate-written : tie.Need-slice-aggregate-written
 slice-aggregate-written c =
     let s = c .before .before in
-    sym (length-take-le 49304 (s .args .bytes .now) (s .pre .0))
+    sym (length-take-le 49319 (s .args .bytes .now) (s .pre .0))
 
 load-requires : tie.Need-load-requires
 load-requires c κs = search needs

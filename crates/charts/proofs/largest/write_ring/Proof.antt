@@ -16,6 +16,9 @@ slice-aggregate-write-front c = search needs
 point-requires : tie.Need-point-requires
 point-requires c κs = search needs
 
+point-requires-2 : tie.Need-point-requires-2
+point-requires-2 c κs = search needs
+
 write-front-requires : tie.Need-write-front-requires
 write-front-requires c κs = search needs
 
@@ -41,6 +44,7 @@ write-ring-spec =
     slice-aggregate-vertices
     slice-aggregate-write-front
     point-requires
+    point-requires-2
     write-front-requires
     print-answer-requires
     is-rest-kept-requires

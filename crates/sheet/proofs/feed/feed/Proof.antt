@@ -1,6 +1,6 @@
 -- `feed::feed` meets its contract: 26 and 27 first, then the sheet's checks, and then each query's result.
 -- Assumes nothing.
-use mathlib.Core.Path.{_≡_, sym, ap₂, _∙_}
+use mathlib.Core.Path.{_≡_, sym, _∙_}
 use mathlib.Core.List.{List}
 use Prim.Native.Nat.{_*_, _≤_}
 use borrow.Author.Needs.{needs}
@@ -9,13 +9,14 @@ use lib.ListN.{length, take, replicate}
 use lib.Seq.{length-take-le, sets}
 use Rattle.sphere.specs.Point.{coarse}
 use Rattle.polygon.specs.declared.answer.Check.the-variants.{Passed}
-use Rattle.polygon.specs.Checks.{acceptCheck}
+use Rattle.polygon.specs.Pair.{optionalCheck}
 use Rattle.batch.specs.Feed.{sizeCheck, feedBytes}
 use Rattle.batch.proofs.Laws.Ends.{size-passed}
 use Rattle.batch.proofs.Laws.Fed.{fed-stored}
-use Rattle.sheet.specs.Fields.{sheetFields}
-use Rattle.sheet.specs.Sheet.{knownOf, verticesOf, sheetCheck}
-use Rattle.sheet.proofs.Laws.Reads.{sheet-passed, sheet-sound, opened-row, opened-room}
+use Rattle.sheet.specs.Fields.{fiveFields}
+use Rattle.sheet.specs.Sheet.{knownOf, verticesOf, secondOf, sheetCheck}
+use Rattle.sheet.proofs.Laws.Reads.{sheet-fields, sheet-sound, sheet-five, sheet-optional, opened-row}
+use Rattle.sheet.proofs.Laws.Reads.{opened-room}
 use Rattle.sheet.proofs.Laws.Feeds.{feed-by-size, feed-by-sheet, feed-ends}
 use Rattle.sheet.proofs.feed.feed.Statement.{statement}
 use Rattle.sheet.proofs.feed.feed.Tie as tie
@@ -36,20 +37,20 @@ sized c = sym (c .before .before .size-check .ensures) ∙ c .enum-told .given .
 passed : (c : tie.After-enum-told2) → sheetCheck (start (c .before .before) .args .sheet .now) ≡ Passed
 passed c = sym (c .before .before .«open» .ensures .0) ∙ c .enum-told2 .given .1
 
-sound : (c : tie.After-enum-told2) → sheetFields (start (c .before .before) .args .sheet .now) ≡ Passed
-sound c = sheet-sound (start (c .before .before) .args .sheet .now) (passed c)
+sound : (c : tie.After-enum-told2) → fiveFields (start (c .before .before) .args .sheet .now) ≡ Passed
+sound c = sheet-five (start (c .before .before) .args .sheet .now) (passed c)
 
 row : (c : tie.After-vertex-count) →
     take (c .vertex-count .result * 3) (c .before .before .before .«open» .last .1 .0)
     ≡ verticesOf (start (c .before .before .before) .args .sheet .now)
 row c =
-    opened-row _ zeros (passed (c .before)) (c .before .before .before .«open» .ensures .1)
+    opened-row _ zeros (sheet-fields _ (passed (c .before))) (c .before .before .before .«open» .ensures .1)
     (c .vertex-count .ensures .0)
 
 room : (c : tie.After-vertex-count) →
     c .vertex-count .result * 3 ≤ length (c .before .before .before .«open» .last .1 .0)
 room c =
-    opened-room _ zeros (passed (c .before)) (c .before .before .before .«open» .ensures .1)
+    opened-room _ zeros (sheet-fields _ (passed (c .before))) (c .before .before .before .«open» .ensures .1)
     (c .vertex-count .ensures .0)
 
 size-check-requires : tie.Need-size-check-requires
@@ -93,22 +94,26 @@ vertex-count-requires c κs = sound c
 mul-size : tie.Need-mul-size
 mul-size c = search needs
 
+known-point-requires : tie.Need-known-point-requires
+known-point-requires c κs = sound (c .before)
+
+second-point-requires : tie.Need-second-point-requires
+second-point-requires c κs = sheet-sound _ (passed (c .before .before))
+
 array-share-prefix-scratch : tie.Need-array-share-prefix-scratch
-array-share-prefix-scratch c = room c
+array-share-prefix-scratch c = room (c .before .before)
 
 slice-aggregate-judge-all : tie.Need-slice-aggregate-judge-all
-slice-aggregate-judge-all c = sym (length-take-le _ _ (room (c .before)))
-
-known-point-requires : tie.Need-known-point-requires
-known-point-requires c κs = sound (c .before .before)
+slice-aggregate-judge-all c = sym (length-take-le _ _ (room (c .before .before .before)))
 
 judge-all-requires : tie.Need-judge-all-requires
 judge-all-requires c κs =
-    let v = c .before .before .before in
+    let p = c .before .before in
+    let v = p .before .before in
     let o = v .before .before .before in
     let i = start o .args in (
-      ap₂ (acceptCheck coarse) (row v) (c .before .known-point .ensures)
-          ∙ sheet-passed (i .sheet .now) (passed (v .before)) .1,
+      (λ j. optionalCheck coarse (row v j) (p .before .known-point .ensures j) (p .second-point .ensures j))
+          ∙ sheet-optional (i .sheet .now) (passed (v .before)),
       size-passed (i .queries .now) _ (sized (o .before .before)),
     )
 
@@ -117,19 +122,21 @@ same-length c = search needs
 
 returns-3 : tie.Need-returns-3
 returns-3 c =
-    let k = c .before .before .before .before in
-    let v = k .before .before in
+    let p = c .before .before .before .before .before in
+    let k = p .before in
+    let v = k .before in
     let o = v .before .before .before in
     let i = start o .args in
+    let b = i .sheet .now in
     let z = sized (o .before .before) in
-    let s = feed-by-sheet (i .sheet .now) (i .queries .now) _ z ∙ passed (v .before) in
-    let w = feed-ends (i .sheet .now) (i .queries .now) (i .results .now) s in
+    let s = feed-by-sheet b (i .queries .now) _ z ∙ passed (v .before) in
+    let w = feed-ends b (i .queries .now) (i .results .now) s in
     let enough = size-passed (i .queries .now) _ z in
-    let stored = fed-stored coarse (verticesOf (i .sheet .now)) (knownOf (i .sheet .now)) (i .queries .now) _ enough
-    in (
+    let stored = fed-stored coarse (verticesOf b) (knownOf b) (secondOf b) (i .queries .now) _ enough in (
       sym (w .answered),
       c .before .before .judge-all .ensures
-          ∙ (λ j. sets (i .results .now) 0 (feedBytes coarse (row v j) (k .known-point .ensures j) (i .queries .now)))
+          ∙ (λ j. sets (i .results .now) 0 (feedBytes coarse (row v j) (k .known-point .ensures j)
+          (p .second-point .ensures j) (i .queries .now)))
           ∙ stored ∙ sym (w .filled),
     )
 
@@ -147,9 +154,10 @@ feed-spec =
     returns-2
     vertex-count-requires
     mul-size
+    known-point-requires
+    second-point-requires
     array-share-prefix-scratch
     slice-aggregate-judge-all
-    known-point-requires
     judge-all-requires
     same-length
     returns-3)

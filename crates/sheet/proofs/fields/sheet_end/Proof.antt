@@ -1,43 +1,35 @@
 -- `fields::sheet_end` meets its contract. Assumes nothing.
+use mathlib.Core.Path.{sym, _∙_}
 use native.Mathlib.Omega.{arith}
 use borrow.Author.Needs.{needs}
-use Rattle.sheet.proofs.Laws.Fields.{passed-spans}
+use Rattle.sheet.proofs.Laws.Fields.{five-passed, second-body, end-plain, end-carried}
 use Rattle.sheet.proofs.fields.sheet_end.Statement.{statement}
 use Rattle.sheet.proofs.fields.sheet_end.Tie as tie
 
-vertices-start-requires : tie.Need-vertices-start-requires
-vertices-start-requires c κs = search needs
+second-start-requires : tie.Need-second-start-requires
+second-start-requires c κs = five-passed _ (c .before .pre)
+
+has-second-requires : tie.Need-has-second-requires
+has-second-requires c κs = five-passed _ (c .before .before .pre)
 
 add-result : tie.Need-add-result
 add-result c = search needs
 
-add-short-at : tie.Need-add-short-at
-add-short-at c = search needs
-
-short-at-requires : tie.Need-short-at-requires
-short-at-requires c κs = search needs
-
-cast-result : tie.Need-cast-result
-cast-result c = search needs
-
-add-result-2 : tie.Need-add-result-2
-add-result-2 c = search needs
-
 returns : tie.Need-returns
 returns c =
-    let s = passed-spans (c .before .before .before .args .b .now) (c .before .before .before .pre) in
-    let e = c .before .vertices-start .ensures .0 in
-    let n = rw e at (c .short-at .ensures) in
-    (omega arith, omega arith)
+    let start = c .before .before .before .before in
+    let b = start .args .b .now in
+    let at = c .before .before .second-start .ensures .0 in
+    let has = sym (c .before .has-second .ensures) ∙ c .if1 .taken in
+    (omega (arith, end-carried b has), omega (arith, second-body b (start .pre) has))
+
+returns-2 : tie.Need-returns-2
+returns-2 c =
+    let b = c .before .before .before .before .args .b .now in
+    let at = c .before .before .second-start .ensures in
+    let has = sym (c .before .has-second .ensures) ∙ c .if1 .left in
+    (at .0 ∙ sym (end-plain b has), at .1)
 
 pub sheet-end-spec : {M : Type 1} → statement M
 sheet-end-spec =
-    tie.close
-    (tie.spec
-    vertices-start-requires
-    add-result
-    add-short-at
-    short-at-requires
-    cast-result
-    add-result-2
-    returns)
+    tie.close (tie.spec second-start-requires has-second-requires add-result returns returns-2)

@@ -1,6 +1,6 @@
--- `judge::judgement` meets its contract: the polygon that the checks decoded is the sheet's, and it is accepted.
--- Assumes nothing.
-use mathlib.Core.Path.{_≡_, sym, ap₂, _∙_}
+-- `judge::judgement` meets its contract: the polygon that the checks decoded is the sheet's, and its points are
+-- accepted. Assumes nothing.
+use mathlib.Core.Path.{_≡_, sym, _∙_}
 use mathlib.Core.List.{List}
 use Prim.Native.Nat.{_*_, _≤_}
 use borrow.Author.Needs.{needs}
@@ -9,12 +9,15 @@ use lib.ListN.{length, take, replicate}
 use lib.Seq.{length-take-le}
 use Rattle.sphere.specs.Point.{coarse}
 use Rattle.polygon.specs.declared.answer.Check.the-variants.{Passed}
-use Rattle.polygon.specs.Checks.{acceptCheck}
+use Rattle.polygon.specs.Pair.{optionalCheck}
 use Rattle.judging.specs.Walk.{judgementOf}
-use Rattle.sheet.specs.Fields.{sheetFields}
-use Rattle.sheet.specs.Sheet.{verticesOf, sheetCheck}
+use Rattle.judging.specs.Called.{calledJudgementOf}
+use Rattle.judging.proofs.Laws.Called.{called-judgement}
+use Rattle.sheet.specs.Fields.{fiveFields}
+use Rattle.sheet.specs.Sheet.{knownOf, verticesOf, secondOf, sheetCheck}
 use Rattle.sheet.specs.Judge.{sheetAnswerOf, sheetLookedOf, sheetJudgementOf}
-use Rattle.sheet.proofs.Laws.Reads.{sheet-passed, sheet-sound, opened-row, opened-room}
+use Rattle.sheet.proofs.Laws.Reads.{sheet-fields, sheet-sound, sheet-five, sheet-optional, opened-row}
+use Rattle.sheet.proofs.Laws.Reads.{opened-room}
 use Rattle.sheet.proofs.judge.judgement.Statement.{statement}
 use Rattle.sheet.proofs.judge.judgement.Tie as tie
 
@@ -25,8 +28,8 @@ zeros = replicate 12288 (pos 0)
 passed : (c : tie.After-enum-told) → sheetCheck (c .before .before .before .before .before .args .b .now) ≡ Passed
 passed c = sym (c .before .before .«open» .ensures .0) ∙ c .enum-told .given .1
 
-sound : (c : tie.After-enum-told) → sheetFields (c .before .before .before .before .before .args .b .now) ≡ Passed
-sound c = sheet-sound (c .before .before .before .before .before .args .b .now) (passed c)
+sound : (c : tie.After-enum-told) → fiveFields (c .before .before .before .before .before .args .b .now) ≡ Passed
+sound c = sheet-five (c .before .before .before .before .before .args .b .now) (passed c)
 
 -- The part of the scratch space that is judged, and that it is there.
 row :
@@ -34,14 +37,14 @@ row :
     take (c .vertex-count .result * 3) (c .before .before .before .«open» .last .1 .0)
     ≡ verticesOf (c .before .before .before .before .before .before .args .b .now)
 row c =
-    opened-row _ zeros (passed (c .before)) (c .before .before .before .«open» .ensures .1)
+    opened-row _ zeros (sheet-fields _ (passed (c .before))) (c .before .before .before .«open» .ensures .1)
     (c .vertex-count .ensures .0)
 
 room :
     (c : tie.After-vertex-count) →
     c .vertex-count .result * 3 ≤ length (c .before .before .before .«open» .last .1 .0)
 room c =
-    opened-room _ zeros (passed (c .before)) (c .before .before .before .«open» .ensures .1)
+    opened-room _ zeros (sheet-fields _ (passed (c .before))) (c .before .before .before .«open» .ensures .1)
     (c .vertex-count .ensures .0)
 
 open-requires : tie.Need-open-requires
@@ -59,17 +62,21 @@ mul-size c = search needs
 array-share-prefix-scratch : tie.Need-array-share-prefix-scratch
 array-share-prefix-scratch c = room c
 
-slice-aggregate-judge-accepted : tie.Need-slice-aggregate-judge-accepted
-slice-aggregate-judge-accepted c = sym (length-take-le _ _ (room (c .before)))
+slice-aggregate-judge-called : tie.Need-slice-aggregate-judge-called
+slice-aggregate-judge-called c = sym (length-take-le _ _ (room (c .before)))
 
 known-point-requires : tie.Need-known-point-requires
 known-point-requires c κs = sound (c .before .before)
 
-judge-accepted-requires : tie.Need-judge-accepted-requires
-judge-accepted-requires c κs =
-    let v = c .before .before in
-    let b = v .before .before .before .before .before .before .args .b .now in
-    ap₂ (acceptCheck coarse) (row v) (c .known-point .ensures) ∙ sheet-passed b (passed (v .before)) .1
+second-point-requires : tie.Need-second-point-requires
+second-point-requires c κs = sheet-sound _ (passed (c .before .before .before))
+
+judge-called-requires : tie.Need-judge-called-requires
+judge-called-requires c κs =
+    let k = c .before in
+    let v = k .before .before in
+    (λ i. optionalCheck coarse (row v i) (k .known-point .ensures i) (c .second-point .ensures i))
+    ∙ sheet-optional (v .before .before .before .before .before .before .args .b .now) (passed (v .before))
 
 enum-known-number : tie.Need-enum-known-number
 enum-known-number c = search needs
@@ -80,10 +87,16 @@ refused-requires c κs = search needs
 returns : tie.Need-returns
 unfolding sheetJudgementOf sheetAnswerOf sheetLookedOf judgementOf
 returns c =
-    let v = c .before .before .before in
+    let k = c .before .before in
+    let v = k .before .before in
     let i = v .before .before .before .before .before .before .args in
+    let b = i .b .now in
     rw (passed (v .before))
-    (c .judge-accepted .ensures ∙ (λ k. judgementOf coarse (row v k) (c .before .known-point .ensures k) (i .query)))
+    (c .judge-called .ensures
+    ∙ (λ j. calledJudgementOf coarse (row v j) (k .known-point .ensures j) (c .before .second-point .ensures j)
+    (i .query))
+    ∙ called-judgement coarse (verticesOf b) (knownOf b) (secondOf b) (i .query)
+    (sheet-optional b (passed (v .before))))
 
 returns-2 : tie.Need-returns-2
 unfolding sheetJudgementOf sheetAnswerOf sheetLookedOf
@@ -100,9 +113,10 @@ judgement-spec =
     vertex-count-requires
     mul-size
     array-share-prefix-scratch
-    slice-aggregate-judge-accepted
+    slice-aggregate-judge-called
     known-point-requires
-    judge-accepted-requires
+    second-point-requires
+    judge-called-requires
     enum-known-number
     refused-requires
     returns

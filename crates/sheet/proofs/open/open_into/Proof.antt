@@ -1,123 +1,96 @@
 -- `open::open_into` meets its contract. Assumes nothing.
-use mathlib.Core.Path.{_≡_, sym, ap, ap₂, _∙_}
-use mathlib.Core.List.{List, _++_}
-use Prim.Native.Nat.{ℕ, _*_}
-use native.Mathlib.Omega.{arith}
+use mathlib.Core.Path.{_≡_, sym, _∙_}
+use Prim.Native.Nat.{_*_, _≤_}
 use borrow.Author.Needs.{needs}
-use lib.IntN.{ℤ}
-use lib.ListN.{take, drop}
+use lib.ListN.{length, take}
 use lib.Seq.{length-take-le}
-use Rattle.sphere.specs.Point.{coarse}
 use Rattle.polygon.specs.declared.answer.Check.the-variants.{Passed}
-use Rattle.polygon.specs.Checks.{acceptCheck}
-use Rattle.sheet.specs.Fields.{sheetFields, fieldsCheck}
-use Rattle.sheet.specs.Sheet.{vertexCountOf, verticesOf, sheetCheck, decodedOf}
-use Rattle.sheet.proofs.Laws.Reads.{fields-sound, sheet-unsound, sheet-polygon, decoded-by, loaded-row}
+use Rattle.sheet.specs.Sheet.{verticesOf, plainCheck}
+use Rattle.sheet.proofs.Laws.Reads.{plain-passed, plain-five, sheet-failed, sheet-carried, opened-row}
+use Rattle.sheet.proofs.Laws.Reads.{opened-room}
 use Rattle.sheet.proofs.open.open_into.Statement.{statement}
 use Rattle.sheet.proofs.open.open_into.Tie as tie
 
--- The fields are sound.
-passed : (c : tie.After-enum-told) → fieldsCheck (c .before .before .before .before .args .b .now) ≡ Passed
-passed c = sym (c .before .before .fields-check .ensures) ∙ c .enum-told .given .1
+-- The call's arguments, from the place after the plain checks.
+abbrev start : tie.After-plain-into → tie.Start
+start p = p .before .before .before
 
-sound : (c : tie.After-enum-told) → sheetFields (c .before .before .before .before .args .b .now) ≡ Passed
-sound c = fields-sound (c .before .before .before .before .args .b .now) (passed c)
+passed : (c : tie.After-enum-told) → plainCheck (start (c .before .before .before) .args .b .now) ≡ Passed
+passed c = sym (c .before .before .before .plain-into .ensures .0) ∙ c .enum-told .given .1
 
--- What lies in `scratch` after decoding.
-decoded :
-    (c : tie.After-decode-vertices) →
-    let i = c .before .before .before .before .before .before .before .args in
-    c .decode-vertices .last .1 .1 .0
-    ≡ verticesOf (i .b .now) ++ drop (vertexCountOf (i .b .now) * 3) (i .scratch .now)
-decoded c =
-    let i = c .before .before .before .before .before .before .before .args in
-    c .decode-vertices .ensures
-    ∙ ap (λ (k : ℕ). verticesOf (i .b .now) ++ drop (k * 3) (i .scratch .now))
-    (c .before .before .vertex-count .ensures .0)
+-- The part of the scratch space that holds the polygon, and that it is there.
+row : (c : tie.After-vertex-count) →
+    let p = c .before .before .before .before in
+    take (c .vertex-count .result * 3) (p .plain-into .last .1 .0) ≡ verticesOf (start p .args .b .now)
+row c =
+    let p = c .before .before .before .before in
+    opened-row _ (start p .args .scratch .now) (plain-passed _ (passed (c .before)) .0) (p .plain-into .ensures .1)
+    (c .vertex-count .ensures .0)
 
-left :
-    (c : tie.After-decode-vertices) →
-    let i = c .before .before .before .before .before .before .before .args in
-    c .decode-vertices .last .1 .1 .0 ≡ decodedOf (i .b .now) (i .scratch .now)
-left c =
-    let i = c .before .before .before .before .before .before .before .args in
-    decoded c ∙ sym (decoded-by (i .b .now) (i .scratch .now) (passed (c .before .before .before)))
+room : (c : tie.After-vertex-count) →
+    c .vertex-count .result * 3 ≤ length (c .before .before .before .before .plain-into .last .1 .0)
+room c =
+    let p = c .before .before .before .before in
+    opened-room _ (start p .args .scratch .now) (plain-passed _ (passed (c .before)) .0) (p .plain-into .ensures .1)
+    (c .vertex-count .ensures .0)
 
--- What the polygon's check was asked.
-asked :
-    (c : tie.After-accept-check) →
-    let i = c .before .before .before .before .before .before .before .before .before .before .before in
-    c .accept-check .result ≡ sheetCheck (i .args .b .now)
-asked c =
-    let d = c .before .before .before .before in
-    let v = d .before .before in
-    let b = v .before .before .before .before .before .args .b .now in
-    let row = ap₂ (λ (k : ℕ) (l : List ℤ). take (k * 3) l) (v .vertex-count .ensures .0) (decoded d) ∙ loaded-row b _ in
-    c .accept-check .ensures
-    ∙ ap₂ (acceptCheck coarse) row (c .before .known-point .ensures)
-    ∙ sym (sheet-polygon b (passed (v .before)))
-
-fields-check-requires : tie.Need-fields-check-requires
-fields-check-requires c κs = search needs
+plain-into-requires : tie.Need-plain-into-requires
+plain-into-requires c κs = search needs
 
 enum-known-number : tie.Need-enum-known-number
 enum-known-number c = search needs
 
+same-length : tie.Need-same-length
+same-length c = search needs
+
 returns : tie.Need-returns
 returns c =
-    let i = c .before .before .before .before .before .args in
-    let e = sym (c .before .before .before .fields-check .ensures) ∙ c .before .number .given .1 in
-    (sym (sheet-unsound (i .b .now) e), sym (decoded-by (i .b .now) (i .scratch .now) e))
+    let p = c .before .before .before .before in
+    let e = sym (p .plain-into .ensures .0) ∙ c .before .number .given .1 in
+    (sym (sheet-failed (start p .args .b .now) e), p .plain-into .ensures .1)
 
 enum-told : tie.Need-enum-told
 enum-told c = search needs
 
 vertex-count-requires : tie.Need-vertex-count-requires
-vertex-count-requires c κs = sound c
-
-decode-vertices-requires : tie.Need-decode-vertices-requires
-decode-vertices-requires c κs =
-    let n = c .before .vertex-count .ensures in
-    (sound (c .before .before), (n .0, omega arith))
+vertex-count-requires c κs = plain-five _ (passed c)
 
 mul-size : tie.Need-mul-size
 mul-size c = search needs
 
-slice-reshare-prefix-accept-check : tie.Need-slice-reshare-prefix-accept-check
-slice-reshare-prefix-accept-check c = search needs
+slice-reshare-prefix-carried-check : tie.Need-slice-reshare-prefix-carried-check
+slice-reshare-prefix-carried-check c = search needs
 
-slice-aggregate-accept-check : tie.Need-slice-aggregate-accept-check
-slice-aggregate-accept-check c =
-    let n = c .before .before .before .before .vertex-count .ensures in
-    let k = c .before .before .decode-vertices .kept .1 .1 .0 in
-    sym (length-take-le _ (c .before .before .decode-vertices .last .1 .1 .0) (omega arith))
+slice-aggregate-carried-check : tie.Need-slice-aggregate-carried-check
+slice-aggregate-carried-check c = sym (length-take-le _ _ (room (c .before)))
 
-known-point-requires : tie.Need-known-point-requires
-known-point-requires c κs = sound (c .before .before .before .before .before)
+carried-check-requires : tie.Need-carried-check-requires
+carried-check-requires c κs = (passed (c .before .before), row (c .before))
 
-accept-check-requires : tie.Need-accept-check-requires
-accept-check-requires c κs = search needs
-
-same-length : tie.Need-same-length
-same-length c = search needs
+same-length-2 : tie.Need-same-length-2
+same-length-2 c = search needs
 
 returns-2 : tie.Need-returns-2
-returns-2 c = (asked c, left (c .before .before .before .before))
+returns-2 c =
+    let v = c .before .before in
+    let p = v .before .before .before .before in (
+      c .carried-check .ensures ∙ sym (sheet-carried (start p .args .b .now) (passed (v .before))),
+      p .plain-into .ensures .1,
+    )
 
 pub open-into-spec : {M : Type 1} → statement M
 open-into-spec =
     tie.close
     (tie.spec
-    fields-check-requires
+    plain-into-requires
     enum-known-number
+    same-length
     returns
     enum-told
     vertex-count-requires
-    decode-vertices-requires
     mul-size
-    slice-reshare-prefix-accept-check
-    slice-aggregate-accept-check
-    known-point-requires
-    accept-check-requires
-    same-length
+    slice-reshare-prefix-carried-check
+    slice-aggregate-carried-check
+    carried-check-requires
+    same-length-2
     returns-2)

@@ -6,17 +6,17 @@ use native.Mathlib.Omega.{arith}
 use borrow.Author.Needs.{needs}
 use lib.ListN.{drop}
 use Rattle.polygon.specs.declared.answer.Check.the-variants.{Passed}
-use Rattle.sheet.specs.Fields.{sheetFields}
+use Rattle.sheet.specs.Fields.{fiveFields}
 use Rattle.sheet.specs.Sheet.{sheetCheck, verticesOf}
-use Rattle.sheet.proofs.Laws.Reads.{sheet-sound, read-refused, read-accepted, loaded-by}
+use Rattle.sheet.proofs.Laws.Reads.{sheet-sound, sheet-five, read-refused, read-accepted, loaded-by}
 use Rattle.sheet.proofs.read.load.Statement.{statement}
 use Rattle.sheet.proofs.read.load.Tie as tie
 
 passed : (c : tie.After-enum-told) → sheetCheck (c .before .before .before .before .args .b .now) ≡ Passed
 passed c = sym (c .before .before .sheet-check .ensures) ∙ c .enum-told .given .1
 
-sound : (c : tie.After-enum-told) → sheetFields (c .before .before .before .before .args .b .now) ≡ Passed
-sound c = sheet-sound (c .before .before .before .before .args .b .now) (passed c)
+sound : (c : tie.After-enum-told) → fiveFields (c .before .before .before .before .args .b .now) ≡ Passed
+sound c = sheet-five (c .before .before .before .before .args .b .now) (passed c)
 
 sheet-check-requires : tie.Need-sheet-check-requires
 sheet-check-requires c κs = search needs
@@ -33,7 +33,7 @@ decode-vertices-requires c κs =
     (sound (c .before .before), (n .0, omega arith))
 
 accepted-requires : tie.Need-accepted-requires
-accepted-requires c κs = sound (c .before .before .before)
+accepted-requires c κs = sheet-sound _ (passed (c .before .before .before))
 
 enum-known-number : tie.Need-enum-known-number
 enum-known-number c = search needs

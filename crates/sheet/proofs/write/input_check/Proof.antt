@@ -25,8 +25,8 @@ returns-2 c =
     let n = sym (c .before .is-allowed .ensures) ∙ not-true _ (c .if2 .taken) in
     rw (k, n)
 
-accept-check-requires : tie.Need-accept-check-requires
-accept-check-requires c κs = search needs
+optional-check-requires : tie.Need-optional-check-requires
+optional-check-requires c κs = search needs
 
 returns-3 : tie.Need-returns-3
 unfolding inputCheck
@@ -34,7 +34,7 @@ returns-3 c =
     let d = c .before .before .before in
     let k = sym (d .before .is-charset .ensures) ∙ not-false _ (d .if1 .left) in
     let n = sym (c .before .before .is-allowed .ensures) ∙ not-false _ (c .before .if2 .left) in
-    rw (k, n) (c .accept-check .ensures)
+    rw (k, n) (c .optional-check .ensures)
 
 pub input-check-spec : {M : Type 1} → statement M
 input-check-spec =
@@ -44,5 +44,5 @@ input-check-spec =
     returns
     is-allowed-requires
     returns-2
-    accept-check-requires
+    optional-check-requires
     returns-3)

@@ -5,11 +5,11 @@ use borrow.Author.Needs.{needs}
 use Rattle.zone_judge.proofs.judging.judge_whole.Statement.{statement}
 use Rattle.zone_judge.proofs.judging.judge_whole.Tie as tie
 
-slice-aggregate-judge-feed : tie.Need-slice-aggregate-judge-feed
-slice-aggregate-judge-feed c = sym (length-take-le _ _ (c .before .before .before .pre))
+slice-aggregate-feed : tie.Need-slice-aggregate-feed
+slice-aggregate-feed c = sym (length-take-le _ _ (c .before .before .before .before .pre))
 
-judge-feed-requires : tie.Need-judge-feed-requires
-judge-feed-requires c κs = search needs
+feed-requires : tie.Need-feed-requires
+feed-requires c κs = search needs
 
 same-length : tie.Need-same-length
 same-length c = search needs
@@ -18,4 +18,4 @@ returns : tie.Need-returns
 returns c = search needs
 
 pub judge-whole-spec : {M : Type 1} → statement M
-judge-whole-spec = tie.close (tie.spec slice-aggregate-judge-feed judge-feed-requires same-length returns)
+judge-whole-spec = tie.close (tie.spec slice-aggregate-feed feed-requires same-length returns)

@@ -1,22 +1,18 @@
--- `judging::judge_pieces` meets its contract: the buffers keep their lengths, and each turn answers a query. Assumes
+-- `judging::judge_all` meets its contract: the buffers keep their lengths, and each turn answers a query. Assumes
 -- nothing.
-use mathlib.Core.Path.{_≡_, sym}
+use mathlib.Core.Path.{_≡_}
 use Prim.Native.Nat.{ℕ, _-_}
 use borrow.Author.Needs.{needs}
 use lib.ListN.{length, length-replicate}
-use lib.Seq.{length-take-le}
-use Rattle.zone_judge.proofs.judging.judge_pieces.Statement.{statement}
-use Rattle.zone_judge.proofs.judging.judge_pieces.Tie as tie
+use Rattle.zone_judge.proofs.judging.judge_all.Statement.{statement}
+use Rattle.zone_judge.proofs.judging.judge_all.Tie as tie
 
 abbrev Inv-loop : tie.InvT-loop
-Inv-loop vertices n known polygon piece₀ results₀ out₀ done₀ piece results out done =
+Inv-loop sheet piece₀ results₀ out₀ done₀ piece results out done =
     (length piece ≡ 49152) × ((length results ≡ 49152) × (length out ≡ 258048))
 
 abbrev μ-loop : tie.MeasureT-loop
-μ-loop vertices n known polygon piece₀ results₀ out₀ done₀ piece results out done = 18000000000000000000 - done
-
-slice-aggregate-polygon : tie.Need-slice-aggregate-polygon Inv-loop μ-loop
-slice-aggregate-polygon c = sym (length-take-le _ _ (c .before .pre))
+μ-loop sheet piece₀ results₀ out₀ done₀ piece results out done = 18000000000000000000 - done
 
 loop-holds : tie.Need-loop-holds Inv-loop μ-loop
 loop-holds c =
@@ -50,13 +46,12 @@ loop-again c = search needs
 returns-2 : tie.Need-returns-2 Inv-loop μ-loop
 returns-2 c = search needs
 
-pub judge-pieces-spec : {M : Type 1} → statement M
-judge-pieces-spec =
+pub judge-all-spec : {M : Type 1} → statement M
+judge-all-spec =
     tie.close
     (tie.spec
     Inv-loop
     μ-loop
-    slice-aggregate-polygon
     loop-holds
     slice-aggregate-judge-piece
     slice-aggregate-judge-piece-2
