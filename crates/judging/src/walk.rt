@@ -1,7 +1,7 @@
 // The walk over a polygon's edges: document 01's 'When the arc crosses a side', and document 02's P2.
-// Here, in order: Met, meet (one edge); counted, Tally, tally_by, Near, next_near, last_inner, walk_edges (some edges);
-// Walk, looked_in, walk_run (one run, or none of it), walk_runs (all). The plane through the reference point and the
-// query has its normal worked out once, and each vertex that a scan passes its side of it. Assumes nothing.
+// Here, in order: Met, meet (one edge); counted, Tally, tally_by, Near, next_near, last_inner, side_at, walk_edges (some
+// edges); looked_in, next_run, Walk, walk_runs (all, run by run). The plane through the reference point and the query
+// has its normal worked out once, and each vertex that the walk comes to its side of it. Assumes nothing.
 ghost use mathlib.Core.Path.{_≡_};
 ghost use mathlib.Core.Bool.{cond};
 ghost use Prim.Native.Nat.{_+_, _*_, _-_, _≤_, _<_};
@@ -11,10 +11,10 @@ ghost use Rattle.sphere.specs.Orientation.{orientationOf, crossOf};
 ghost use Rattle.polygon.specs.declared.answer.Check.the-variants.{Passed};
 ghost use Rattle.polygon.specs.Checks.{acceptCheck};
 ghost use Rattle.polygon.specs.Accepted.{Listed, Gridded};
-ghost use Rattle.polygon.specs.Vertices.{vertexCount, startOf, endOf};
+ghost use Rattle.polygon.specs.Vertices.{vertexCount, nextOf, startOf, endOf};
 ghost use Rattle.polygon.specs.Verdict.{isCoast, wayOf};
-ghost use Rattle.judging.specs.Boxes.{runCount, runEnd, Boxed};
-ghost use Rattle.judging.specs.Scan.{Sided, nearFrom, lastInner};
+ghost use Rattle.judging.specs.Boxes.{Boxed};
+ghost use Rattle.judging.specs.Scan.{sideOf, Sided, isNear, stopFrom, lastInner, Cornered, isRun};
 ghost use Rattle.judging.specs.Walk.{metBy, tallyBy, tallyFrom, reachOf, Among, walkFrom};
 use crate::border::is_coast;
 use crate::boxes;
@@ -87,20 +87,23 @@ fn tally_by(found: Found, crossed: u32, sum: i32) -> Tally
     }
 }
 
-// An edge where a scan stops, and the side of its start.
+// An edge where a scan stops, and the sides of its ends.
 pub struct Near {
     pub edge: usize,
-    pub side: i64,
+    pub start: i64,
+    pub end: i64,
 }
 
 // Past the edges from i on, before `last`, whose ends are strictly on one side. Most edges of a run are, so this is the
-// inner loop: a vertex a turn, and no edge that goes back to vertex 0.
-fn next_near(vertices: &[i32], normal: Point, i: usize, side: i64, last: usize) -> Near
+// inner loop: a vertex a turn. `side` is that of vertex i. Only the edge after them may go back to vertex 0, whose side
+// is `home`.
+fn next_near(vertices: &[i32], normal: Point, home: i64, i: usize, side: i64, last: usize) -> Near
     requires { ⌜ Listed (now vertices) × Gridded coarse (now vertices) × Within (minors coarse) normal ⌝ }
     requires { ⌜ (i ≤ vertexCount (now vertices)) × (last < vertexCount (now vertices)) ⌝ }
-    requires { ⌜ Sided (now vertices) normal i side ⌝ }
-    ensures { λ r. ⌜ (r .edge ≡ nearFrom (now (vertices .entry)) normal i (last - i))
-        × Sided (now (vertices .entry)) normal (r .edge) (r .side) ⌝ }
+    requires { ⌜ Sided (now vertices) normal i side × Sided (now vertices) normal 0 home ⌝ }
+    ensures { λ r. ⌜ (r .edge ≡ stopFrom (isNear (now (vertices .entry)) normal) i (last - i))
+        × Sided (now (vertices .entry)) normal (r .edge) (r .start)
+        × Sided (now (vertices .entry)) normal (nextOf (last + 1) (r .edge)) (r .end) ⌝ }
 {
     let mut edge = i;
     let mut s1 = side;
@@ -109,7 +112,8 @@ fn next_near(vertices: &[i32], normal: Point, i: usize, side: i64, last: usize) 
         if !is_beside(s1, s2) {
             return Near {
                 edge: edge,
-                side: s1,
+                start: s1,
+                end: s2,
             };
         }
         s1 = s2;
@@ -117,7 +121,8 @@ fn next_near(vertices: &[i32], normal: Point, i: usize, side: i64, last: usize) 
     }
     Near {
         edge: edge,
-        side: s1,
+        start: s1,
+        end: home,
     }
 }
 
@@ -132,6 +137,18 @@ fn last_inner(n: usize, to: usize) -> usize
     n - 1
 }
 
+// The side of vertex i, where that of vertex 0 is known.
+fn side_at(vertices: &[i32], normal: Point, home: i64, i: usize) -> i64
+    requires { ⌜ Gridded coarse (now vertices) × Within (minors coarse) normal × (i < vertexCount (now vertices)) ⌝ }
+    requires { ⌜ Sided (now vertices) normal 0 home ⌝ }
+    ensures { λ r. ⌜ r ≡ sideOf (now (vertices .entry)) normal i ⌝ }
+{
+    if i == 0 {
+        return home;
+    }
+    dot(normal, vertex_at(vertices, i))
+}
+
 // One pass over the edges before `to`: the first border edge that holds the query ends it, and the crossings are
 // counted and summed on the way.
 fn walk_edges(
@@ -140,17 +157,19 @@ fn walk_edges(
     known: Point,
     query: Point,
     normal: Point,
+    home: i64,
     from: usize,
     to: usize,
 ) -> Tally
     requires { ⌜ (acceptCheck coarse (now vertices) known ≡ Passed) × Within coarse query
         × Boxed (now vertices) (now boxes) ⌝ }
-    requires { ⌜ (normal ≡ crossOf known query) × (from < to) × (to ≤ vertexCount (now vertices)) ⌝ }
+    requires { ⌜ (normal ≡ crossOf known query) × Sided (now vertices) normal 0 home ⌝ }
+    requires { ⌜ (from < to) × (to ≤ vertexCount (now vertices)) ⌝ }
     ensures { λ r. ⌜ r ≡ tallyFrom (now (vertices .entry)) known query from (to - from) ⌝ }
 {
     let last = last_inner(vertices.len() / 3, to);
-    let first = dot(normal, vertex_at(vertices, from));
-    let mut near = next_near(vertices, normal, from, first, last);
+    let first = side_at(vertices, normal, home, from);
+    let mut near = next_near(vertices, normal, home, from, first, last);
     let mut crossed: u32 = 0;
     let mut sum: i32 = 0;
     let found = loop {
@@ -160,25 +179,18 @@ fn walk_edges(
         }
         let a = vertex_at(vertices, i);
         let b = end_of(vertices, i);
-        let s2 = dot(normal, b);
-        let way = match meet(vertices, boxes, known, query, i, a, b, near.side, s2) {
+        let way = match meet(vertices, boxes, known, query, i, a, b, near.start, near.end) {
             Met::Coast => break Found::At(i),
             Met::Way(way) => way,
         };
         crossed += counted(way);
         sum += way;
-        near = next_near(vertices, normal, i + 1, s2, last);
+        near = next_near(vertices, normal, home, i + 1, near.end, last);
     };
     tally_by(found, crossed, sum)
 }
 
-// The same, and the number of edges looked at.
-pub struct Walk {
-    pub tally: Tally,
-    pub looked: u32,
-}
-
-// How many edges a walk that was not skipped came to.
+// How many edges a walk came to.
 fn looked_in(tally: Tally, from: usize, to: usize) -> u32
     requires { ⌜ (from ≤ to) × (to ≤ 4096) × Among tally from to ⌝ }
     ensures { λ r. ⌜ r ≡ reachOf tally from to ⌝ }
@@ -189,54 +201,51 @@ fn looked_in(tally: Tally, from: usize, to: usize) -> u32
     }
 }
 
-// Run r, of which no edge is looked at where its box lies strictly on one side of the plane.
-fn walk_run(
-    vertices: &[i32],
-    boxes: &[i32],
-    known: Point,
-    query: Point,
-    normal: Point,
-    r: usize,
-) -> Walk
-    requires { ⌜ (acceptCheck coarse (now vertices) known ≡ Passed) × Within coarse query ⌝ }
-    requires { ⌜ (normal ≡ crossOf known query) × (r < runCount (vertexCount (now vertices))) ⌝ }
-    requires { ⌜ Boxed (now vertices) (now boxes) ⌝ }
-    ensures { λ w. ⌜ w ≡ walkFrom (now (vertices .entry)) known query (r * 32)
-        (runEnd (vertexCount (now (vertices .entry))) r - r * 32) ⌝ }
+// The first run from r on that is skipped, or that is not: whose box lies strictly on one side of the plane, or not.
+fn next_run(boxes: &[i32], normal: Point, r: usize, runs: usize, skipped: bool) -> usize
+    requires { ⌜ Within (minors coarse) normal × Cornered (now boxes) runs ⌝ }
+    ensures { λ to. ⌜ to ≡ stopFrom (isRun (now (boxes .entry)) normal skipped) r (runs - r) ⌝ }
 {
-    if boxes::is_apart(normal, boxes::box_at(boxes, r)) {
-        return Walk {
-            tally: Tally::Crossed(0, 0),
-            looked: 0,
-        };
+    let mut i = r;
+    while i < runs {
+        if boxes::is_apart(normal, boxes::box_at(boxes, i)) == skipped {
+            return i;
+        }
+        i += 1;
     }
-    let from = r * 32;
-    let to = boxes::run_end(vertices.len() / 3, r);
-    let tally = walk_edges(vertices, boxes, known, query, normal, from, to);
-    Walk {
-        tally: tally,
-        looked: looked_in(tally, from, to),
-    }
+    i
 }
 
-// All runs, in order, up to the first border edge that holds the query.
+// What a walk says, and the number of edges looked at.
+pub struct Walk {
+    pub tally: Tally,
+    pub looked: u32,
+}
+
+// All runs, in order, up to the first border edge that holds the query. Runs that are not skipped are walked together
+// as far as they follow each other, so no vertex between them is met twice.
 pub fn walk_runs(vertices: &[i32], boxes: &[i32], known: Point, query: Point, normal: Point) -> Walk
     requires { ⌜ (acceptCheck coarse (now vertices) known ≡ Passed) × Within coarse query ⌝ }
     requires { ⌜ (normal ≡ crossOf known query) × Boxed (now vertices) (now boxes) ⌝ }
     ensures { λ w. ⌜ w ≡ walkFrom (now (vertices .entry)) known query 0 (vertexCount (now (vertices .entry))) ⌝ }
 {
-    let runs = boxes::run_count(vertices.len() / 3);
+    let n = vertices.len() / 3;
+    let runs = boxes::run_count(n);
+    let home = dot(normal, vertex_at(vertices, 0));
     let mut r = 0;
     let mut crossed: u32 = 0;
     let mut sum: i32 = 0;
     let mut looked: u32 = 0;
     let found = loop {
-        if r >= runs {
+        let first = next_run(boxes, normal, r, runs, false);
+        if first >= runs {
             break Found::Nothing;
         }
-        let run = walk_run(vertices, boxes, known, query, normal, r);
-        looked += run.looked;
-        let tally = run.tally;
+        let end = next_run(boxes, normal, first + 1, runs, true);
+        let from = first * 32;
+        let to = boxes::run_end(n, end - 1);
+        let tally = walk_edges(vertices, boxes, known, query, normal, home, from, to);
+        looked += looked_in(tally, from, to);
         match tally {
             Tally::Held(edge) => break Found::At(edge),
             Tally::Crossed(more, ways) => {
@@ -244,7 +253,7 @@ pub fn walk_runs(vertices: &[i32], boxes: &[i32], known: Point, query: Point, no
                 sum += ways;
             }
         }
-        r += 1;
+        r = end + 1;
     };
     Walk {
         tally: tally_by(found, crossed, sum),

@@ -1,8 +1,9 @@
--- Runs of 32 edges. Defined: Ends, Run. Proved, in order: run-ends, run-within, run-size, run-known, some-runs,
--- run-few, run-of. Assumes nothing.
+-- Runs of 32 edges. Defined: Ends, Run, runStart, Between. Proved, in order: run-ends, run-within, run-known, some-runs,
+-- run-few, runs-few; start-of, start-last, start-end (where a run begins), between (the edges from there to where
+-- another one does). Assumes nothing.
 use mathlib.Core.Path.{_≡_, refl}
 use mathlib.Core.Bool.{Bool, true, false, cond}
-use Prim.Native.Nat.{ℕ, _+_, _*_, _/_, _≤_, _<_}
+use Prim.Native.Nat.{ℕ, _+_, _*_, _-_, _/_, _≤_, _<_}
 use native.Mathlib.Omega.{arith}
 use borrow.Author.Tests.{ltb-true, ltb-false}
 use lib.Dec.{ltb}
@@ -27,13 +28,6 @@ run-within n r = go (runEnd n r) (run-ends n r)
     go : (to : ℕ) → Ends n r to → to ≤ n
     go to (full e) = e
     go to (last e) = omega arith
-
-pub run-size : (n r : ℕ) → runEnd n r ≤ r * 32 + 32
-run-size n r = go (runEnd n r) (run-ends n r)
-  where
-    go : (to : ℕ) → Ends n r to → to ≤ r * 32 + 32
-    go to (full e) = omega arith
-    go to (last e) = e
 
 -- What is known of the end of run r, of runCount n.
 pub record Run (n r to : ℕ) : Type 0 where
@@ -68,6 +62,52 @@ pub run-few : (n r : ℕ) → n ≤ 4096 → r < runCount n → r < 128
 unfolding runCount
 run-few n r h k = omega arith
 
--- The run of an edge.
-pub run-of : (r j : ℕ) → r * 32 ≤ j → j < r * 32 + 32 → j / 32 ≡ r
-run-of r j h k = omega arith
+pub runs-few : (n : ℕ) → n ≤ 4096 → runCount n ≤ 128
+unfolding runCount
+runs-few n h = omega arith
+
+-- ---- where run r begins, or the end of n edges: the lesser of r * 32 and n
+abbrev pub runStart : ℕ → ℕ → ℕ
+runStart n r = n - (n - r * 32)
+
+pub start-of : (n r : ℕ) → r < runCount n → runStart n r ≡ r * 32
+unfolding runCount
+start-of n r h = omega arith
+
+pub start-below : (n r : ℕ) → r < runCount n → r * 32 < n
+unfolding runCount
+start-below n r h = omega arith
+
+pub start-last : (n r : ℕ) → runCount n ≤ r → runStart n r ≡ n
+unfolding runCount
+start-last n r h = omega arith
+
+-- A run ends where the next one begins.
+pub start-end : (n r : ℕ) → 0 < r → runEnd n (r - 1) ≡ runStart n r
+start-end n r h = go (runEnd n (r - 1)) (run-ends n (r - 1))
+  where
+    go : (to : ℕ) → Ends n (r - 1) to → to ≡ runStart n r
+    go to (full e) = omega arith
+    go to (last e) = omega arith
+
+-- An edge from where run a begins on, before run b does: its run is one of those between.
+pub record Between (n a b j : ℕ) : Type 0 where
+  pub from : a ≤ j / 32
+  pub before : j / 32 < b
+  pub some : j / 32 < runCount n
+  pub after : (j / 32) * 32 ≤ j
+  pub ends : j < runEnd n (j / 32)
+
+pub between : (n a b j : ℕ) → runStart n a ≤ j → j < runStart n b → Between n a b j
+unfolding runCount
+between n a b j h l = record {
+  from = omega arith;
+  before = omega arith;
+  some = omega arith;
+  after = omega arith;
+  ends = go (runEnd n (j / 32)) (run-ends n (j / 32));
+}
+  where
+    go : (to : ℕ) → Ends n (j / 32) to → j < to
+    go to (full e) = omega arith
+    go to (last e) = omega (arith, l)

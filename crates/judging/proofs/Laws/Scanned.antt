@@ -1,14 +1,20 @@
--- A scan past edges that cannot matter. Defined: Inner, Stopped. Proved, in order: inner (the edges that do not go back
--- to vertex 0); scan-start, scan-step, scan-hit (as a loop goes); stopped (what is known where it stops), scanned-told
--- (what was told before the scan is told after it). Assumes nothing.
-use mathlib.Core.Path.{_≡_, refl, _∙_, subst}
+-- Scans past edges and runs that cannot matter. Defined: Scanning, Stopped, Inner. Proved, in order: scan-start,
+-- scan-step, scan-hit, scan-end (as a loop goes); stopped (what is known where it stops); sided-held; inner, inner-end
+-- (the edges that do not go back to vertex 0); scanned-told (what was told before a scan is told after it). Assumes
+-- nothing.
+use mathlib.Core.Path.{_≡_, refl, sym, _∙_, subst}
+use mathlib.Core.Logic.{⊎-elim}
 use mathlib.Core.Bool.{Bool, true, false, not, cond, true≢false}
 use mathlib.Core.List.{List}
 use Prim.Native.Nat.{ℕ, suc, _+_, _-_, _≤_, _<_}
+use native.Mathlib.Nat.{eq-or-lt-of-le}
 use native.Mathlib.Omega.{arith}
-use borrow.Author.Tests.{ltb-true, ltb-false}
+use borrow.Author.Tests.{ltb-true, ltb-false, lt-ltb}
 use lib.Dec.{ltb}
-use lib.IntN.{ℤ, pos, _+ℤ_, +ℤ-idr}
+use lib.IntN.{ℤ, pos}
+use mir.Syntax.{w64}
+use mir.Val.{SFits, toZ, ofZ}
+use mir.ValLaws.{toZ-ofZ}
 use Rattle.integers.specs.Sign.{nought, signOf}
 use Rattle.sphere.specs.declared.point.Point.{Point}
 use Rattle.sphere.specs.Orientation.{orientationOf, crossOf}
@@ -18,83 +24,124 @@ use Rattle.sphere.proofs.Laws.Beside.{beside-not-crossed, beside-not-on}
 use Rattle.polygon.specs.declared.answer.Found.{Found}
 use Rattle.polygon.specs.declared.answer.Found.the-variants.{Nothing, At}
 use Rattle.polygon.specs.Search.{firstFrom}
-use Rattle.polygon.specs.Vertices.{vertexCount, vertexAt, startOf, endOf}
+use Rattle.polygon.specs.Vertices.{vertexCount, vertexAt, nextOf, startOf, endOf}
 use Rattle.polygon.specs.Verdict.{isCoast, isCrossed, wayOf}
 use Rattle.polygon.proofs.Laws.First.{Each, none-first, first-found}
 use Rattle.polygon.proofs.Laws.Search.{first-none}
 use Rattle.polygon.proofs.Laws.Blocks.{first-pass, count-none, sum-none}
 use Rattle.polygon.proofs.Laws.Checks.{OffCircles}
 use Rattle.judging.specs.declared.walk.Tally.the-variants.{Crossed}
-use Rattle.judging.specs.Scan.{sideOf, isNear, stopOf, nearFrom, lastInner}
+use Rattle.judging.specs.Scan.{stopOf, stopFrom, sideOf, Sided, isNear, lastInner}
 use Rattle.judging.specs.Walk.{tallyFrom}
 use Rattle.judging.proofs.Laws.Skipped.{next-start, side-of}
-use Rattle.judging.proofs.Laws.Told.{Told, told-block}
+use Rattle.judging.proofs.Laws.Told.{Told, told-none}
+
+-- ---- as a loop goes: the test holds nowhere from i on, before `at`
+pub record Scanning (test : ℕ → Bool) (i last at : ℕ) : Type 0 where
+  pub after : i ≤ at
+  pub before : at - i ≤ last - i
+  pub none : firstFrom test i (at - i) ≡ Nothing
+
+module _ {test : ℕ → Bool} {i last : ℕ} where
+  pub scan-start : Scanning test i last i
+  unfolding firstFrom
+  scan-start =
+      let none : i - i ≡ 0 = omega arith in record { after = omega arith; before = omega arith; none = rw none }
+
+  module _ {at : ℕ} (s : Scanning test i last at) where
+    here : i + (at - i) ≡ at
+    here = omega (arith, s .after)
+
+    pub scan-step : at < last → test at ≡ false → Scanning test i last (at + 1)
+    unfolding firstFrom
+    scan-step l e =
+        let more : at + 1 - i ≡ (at - i) + 1 = omega (arith, s .after) in
+        record {
+          after = omega (arith, s .after);
+          before = omega (arith, s .after, l);
+          none = rw more (first-pass test i (at - i) 1 (s .none) ∙ rw (here, e));
+        }
+
+    pub scan-hit : at < last → test at ≡ true → at ≡ stopFrom test i (last - i)
+    unfolding stopFrom firstFrom
+    scan-hit l e =
+        let more : last - i ≡ (at - i) + suc (last - (at + 1)) = omega (arith, s .after, l) in
+        let hit : firstFrom test i ((at - i) + suc (last - (at + 1))) ≡ At at =
+        first-pass test i (at - i) (suc (last - (at + 1))) (s .none) ∙ rw (here, e) in
+        rw (more, hit)
+
+    pub scan-end : last ≤ at → at ≡ stopFrom test i (last - i)
+    unfolding stopFrom
+    scan-end l =
+        let all : last - i ≡ at - i = omega (arith, l, s .before, s .after) in
+        rw (all, s .none) (sym here)
+
+-- ---- where it stops
+pub record Stopped (test : ℕ → Bool) (i last at : ℕ) : Type 0 where
+  pub after : i ≤ at
+  pub before : at - i ≤ last - i
+  pub all : Each (λ j. test j ≡ false) i (at - i)
+  pub hit : at < last → test at ≡ true
+
+pub stopped : (test : ℕ → Bool) (i last : ℕ) {at : ℕ} → at ≡ stopFrom test i (last - i) → Stopped test i last at
+unfolding stopFrom
+stopped test i last e = subst (Stopped test i last) (sym e) (go (firstFrom test i (last - i)) refl)
+  where
+    go : (found : Found) → firstFrom test i (last - i) ≡ found → Stopped test i last (stopOf found (i + (last - i)))
+    go Nothing e = record {
+      after = omega arith;
+      before = omega arith;
+      all = λ j h l. first-none test i (last - i) j e h (omega (arith, l));
+      hit = λ l. absurd (omega (arith, l));
+    }
+    go (At edge) e =
+        let found = first-found test i (last - i) edge e in
+        record {
+          after = found .from;
+          before = omega (arith, found .from, found .below);
+          all = λ j h l. found .before j h (omega (arith, l, found .from));
+          hit = λ l. found .holds;
+        }
+
+-- ---- a side, as a local holds it
+pub sided-held : {vs : List ℤ} {N : Point} {i : ℕ} {side : ℤ} → SFits w64 side → Sided vs N i side →
+    Sided vs N i (toZ w64 (ofZ w64 side))
+sided-held {side = side} fits s = record { known = λ h. toZ-ofZ w64 side fits ∙ s .known h }
 
 -- ---- the edges that do not go back to vertex 0
 pub record Inner (n to last : ℕ) : Type 0 where
   pub below : last < n
   pub before : last ≤ to
   pub near : to ≤ last + 1
+  pub home : last < to → last + 1 ≡ n
 
 pub inner : (n to : ℕ) → 0 < n → to ≤ n → Inner n to (lastInner n to)
 unfolding lastInner
 inner n to h k = go (ltb to n) refl
   where
     go : (t : Bool) → ltb to n ≡ t → Inner n to (cond t to (n - 1))
-    go true e = record { below = ltb-true to n e; before = omega arith; near = omega arith }
-    go false e = let l = ltb-false to n e in record { below = omega arith; before = omega arith; near = omega arith }
+    go true e = record {
+      below = ltb-true to n e;
+      before = omega arith;
+      near = omega arith;
+      home = λ l. absurd (omega (arith, l));
+    }
+    go false e =
+        let l = ltb-false to n e in
+        record { below = omega arith; before = omega arith; near = omega arith; home = λ m. omega (arith, h) }
 
--- ---- as a loop goes: nothing near from i on, before `edge`
-module _ (test : ℕ → Bool) (i : ℕ) where
-  pub scan-start : firstFrom test i (i - i) ≡ Nothing
-  unfolding firstFrom
-  scan-start = let none : i - i ≡ 0 = omega arith in rw none
-
-  module _ (edge : ℕ) (h : i ≤ edge) (none : firstFrom test i (edge - i) ≡ Nothing) where
-    here : i + (edge - i) ≡ edge
-    here = omega (arith, h)
-
-    pub scan-step : test edge ≡ false → firstFrom test i (edge + 1 - i) ≡ Nothing
-    unfolding firstFrom
-    scan-step e =
-        let more : edge + 1 - i ≡ (edge - i) + 1 = omega (arith, h) in
-        rw more (first-pass test i (edge - i) 1 none ∙ rw (here, e))
-
-    pub scan-hit : (last : ℕ) → edge < last → test edge ≡ true → firstFrom test i (last - i) ≡ At edge
-    unfolding firstFrom
-    scan-hit last l e =
-        let more : last - i ≡ (edge - i) + suc (last - (edge + 1)) = omega (arith, h) in
-        rw more (first-pass test i (edge - i) (suc (last - (edge + 1))) none ∙ rw (here, e))
+-- where an edge before `to` ends
+pub inner-end : {n to last : ℕ} (i : ℕ) → Inner n to last → i < to → nextOf (last + 1) i ≡ nextOf n i
+unfolding nextOf
+inner-end {n} {to} {last} i s h = ⊎-elim
+    (λ e. let n-is : last + 1 ≡ n = s .home (omega (arith, e, h)) in rw n-is)
+    (λ l. rw (lt-ltb (i + 1) (last + 1) (omega (arith, l)), lt-ltb (i + 1) n (omega (arith, l, s .below))))
+    (eq-or-lt-of-le {n = i} {m = last} (omega (arith, h, s .near)))
 
 -- ---- what was told before a scan is told after it
 not-near : (b : Bool) → not b ≡ false → b ≡ true
 not-near true e = refl
 not-near false e = absurd (true≢false e)
-
--- where the scan stops
-pub record Stopped (vs : List ℤ) (N : Point) (i last edge : ℕ) : Type 0 where
-  pub after : i ≤ edge
-  pub before : edge - i ≤ last - i
-  pub all : Each (λ j. isNear vs N j ≡ false) i (edge - i)
-
-pub stopped : (vs : List ℤ) (N : Point) (i last : ℕ) → Stopped vs N i last (nearFrom vs N i (last - i))
-unfolding nearFrom
-stopped vs N i last = go (firstFrom (isNear vs N) i (last - i)) refl
-  where
-    go : (found : Found) → firstFrom (isNear vs N) i (last - i) ≡ found →
-        Stopped vs N i last (stopOf found (i + (last - i)))
-    go Nothing e = record {
-      after = omega arith;
-      before = omega arith;
-      all = λ j h l. first-none (isNear vs N) i (last - i) j e h (omega (arith, l));
-    }
-    go (At edge) e =
-        let found = first-found (isNear vs N) i (last - i) edge e in
-        record {
-          after = found .from;
-          before = omega (arith, found .from, found .below);
-          all = λ j h l. found .before j h (omega (arith, l, found .from));
-        }
 
 module _ (vs : List ℤ) (X P : Point) (off : OffCircles vs X) where
   module _ (j : ℕ) (h : j + 1 < vertexCount vs) (e : isNear vs (crossOf X P) j ≡ false) where
@@ -124,12 +171,8 @@ module _ (vs : List ℤ) (X P : Point) (off : OffCircles vs X) where
       on j l m = omega (arith, l, m, h (omega (arith, l, m)))
 
   pub scanned-told : {from i crossed : ℕ} {sum : ℤ} (last edge : ℕ) → from ≤ i → last < vertexCount vs →
-      Stopped vs (crossOf X P) i last edge → Told vs X P from i crossed sum → Told vs X P from edge crossed sum
-  scanned-told {from} {i} {crossed} {sum} last edge h l s t =
+      Stopped (isNear vs (crossOf X P)) i last edge → Told vs X P from i crossed sum → Told vs X P from edge crossed sum
+  scanned-told {i = i} last edge h l s t =
       let k = edge - i in
       let there : i + k ≡ edge = omega (arith, s .after) in
-      let plain : crossed + 0 ≡ crossed = omega arith in
-      let more = told-block k h t (passed i k (λ some. omega (arith, some, s .before, l)) (s .all)) in
-      subst (λ e. Told vs X P from e crossed sum) there
-      (subst (λ s. Told vs X P from (i + k) crossed s) (+ℤ-idr sum)
-      (subst (λ c. Told vs X P from (i + k) c (sum +ℤ pos 0)) plain more))
+      told-none k h t edge there (passed i k (λ some. omega (arith, some, s .before, l)) (s .all))

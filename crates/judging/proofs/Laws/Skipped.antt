@@ -1,15 +1,15 @@
--- Runs that are skipped and runs that are not. Proved, in order: box-holds (the ends of a run's edges are in its box),
--- box-within; side-of, skipped-beside, skipped-not-crossed, skipped-not-held; skipped-run, looked-run (what a walk over
--- the run says). Assumes nothing.
+-- Runs that are skipped and runs that are not. Defined: AreSkipped. Proved, in order: box-holds (the ends of a run's edges are in its box),
+-- box-within; side-of, skipped-beside, skipped-not-crossed, skipped-not-held; skipped-runs, looked-runs (what a walk over
+-- some runs says); no-run, one-run, more-runs. Assumes nothing.
 use mathlib.Core.Path.{_≡_, refl, sym, _∙_, subst}
 use mathlib.Core.Logic.{⊎-elim}
-use mathlib.Core.Bool.{true, false}
+use mathlib.Core.Bool.{Bool, true, false}
 use mathlib.Core.List.{List}
-use Prim.Native.Nat.{ℕ, _+_, _*_, _-_, _≤_, _<_}
+use Prim.Native.Nat.{ℕ, _+_, _*_, _-_, _/_, _≤_, _<_}
 use native.Mathlib.Nat.{eq-or-lt-of-le}
 use native.Mathlib.Omega.{arith}
-use borrow.Author.Tests.{lt-ltb}
-use lib.Dec.{T}
+use borrow.Author.Tests.{ltb-true, ltb-false, lt-ltb}
+use lib.Dec.{T, ltb}
 use lib.IntN.{ℤ, pos}
 use Rattle.integers.specs.Sign.{Sign, negative, nought, positive, signOf, isPositive, isNegative}
 use Rattle.integers.proofs.Sign.{lt, gt, is-allows}
@@ -35,7 +35,7 @@ use Rattle.judging.proofs.Laws.Extremes.{below-refl, below-trans, least
 use Rattle.judging.proofs.Laws.Extremes.{greatest-right, extreme-first, extreme-each, extreme-keeps}
 use Rattle.judging.proofs.Laws.Extremes.{least-within, greatest-within}
 use Rattle.judging.proofs.Laws.Apart.{apart-one-side}
-use Rattle.judging.proofs.Laws.Runs.{run-within, run-size, run-known, run-of}
+use Rattle.judging.proofs.Laws.Runs.{run-within, run-known, runStart, Between, between}
 use Rattle.judging.proofs.Laws.Told.{reach-within}
 
 -- ---- the box of a run
@@ -151,35 +151,65 @@ module _ (vs : List ℤ) (X P : Point) (r : ℕ) (skipped : isSkipped vs X P r �
     pub skipped-not-held : isHeldBy vs P j ≡ false
     skipped-not-held = beside-not-on X P (startOf vs j) (endOf vs j) (off j inside) (skipped-beside j h)
 
-  in-run : (j : ℕ) → r * 32 ≤ j → j < r * 32 + (runEnd (vertexCount vs) r - r * 32) → InRun vs r j
-  in-run j h l = record { from = h; before = omega (arith, h, l) }
+-- ---- runs a, a + 1, .. b - 1: all of them skipped, or none
+pub record AreSkipped (vs : List ℤ) (X P : Point) (a b : ℕ) (t : Bool) : Type 0 where
+  pub each : (r : ℕ) → a ≤ r → r < b → r < runCount (vertexCount vs) → isSkipped vs X P r ≡ t
 
-  run-looked : (j : ℕ) → r * 32 ≤ j → j < r * 32 + (runEnd (vertexCount vs) r - r * 32) → isLooked vs X P j ≡ false
-  unfolding isLooked
-  run-looked j h l = rw (run-of r j h (omega (arith, l, h, run-size (vertexCount vs) r)), skipped)
+-- their edges, k from i on
+module _ (vs : List ℤ) (X P : Point) (a b : ℕ) where
+  abbrev n : ℕ
+  n = vertexCount vs
 
-  pub skipped-run : OffCircles vs X →
-      walkFrom vs X P (r * 32) (runEnd (vertexCount vs) r - r * 32) ≡ record { tally = Crossed 0 (pos 0); looked = 0 }
-  unfolding walkFrom tallyFrom lookedFrom
-  skipped-run off =
-      let i = r * 32 in
-      let k = runEnd (vertexCount vs) r - r * 32 in
+  abbrev i : ℕ
+  i = runStart n a
+
+  abbrev k : ℕ
+  k = runStart n b - runStart n a
+
+  edge : (j : ℕ) → i ≤ j → j < i + k → Between n a b j
+  edge j h l = between n a b j h (omega (arith, h, l))
+
+  module _ {t : Bool} (all : AreSkipped vs X P a b t) where
+    skips : (j : ℕ) → i ≤ j → j < i + k → isSkipped vs X P (j / 32) ≡ t
+    skips j h l = let e = edge j h l in all .each (j / 32) (e .from) (e .before) (e .some)
+
+  pub skipped-runs : AreSkipped vs X P a b true → OffCircles vs X →
+      walkFrom vs X P i k ≡ record { tally = Crossed 0 (pos 0); looked = 0 }
+  unfolding walkFrom tallyFrom lookedFrom isLooked
+  skipped-runs all off =
       rw (
-        none-first (isCoast vs P) i k (λ j h l. rw (skipped-not-held off j (in-run j h l))),
-        count-none (isCrossed vs X P) i k (λ j h l. rw (skipped-not-crossed off j (in-run j h l))),
-        sum-none (wayOf vs X P) i k (λ j h l. rw (skipped-not-crossed off j (in-run j h l))),
-        count-none (isLooked vs X P) i k run-looked,
+        none-first (isCoast vs P) i k (λ j h l. rw (skipped-not-held vs X P (j / 32) (skips all j h l) off j (on j h l))),
+        count-none (isCrossed vs X P) i k
+            (λ j h l. rw (skipped-not-crossed vs X P (j / 32) (skips all j h l) off j (on j h l))),
+        sum-none (wayOf vs X P) i k
+            (λ j h l. rw (skipped-not-crossed vs X P (j / 32) (skips all j h l) off j (on j h l))),
+        count-none (isLooked vs X P) i k (λ j h l. rw (skips all j h l)),
       )
+    where
+      on : (j : ℕ) → i ≤ j → j < i + k → InRun vs (j / 32) j
+      on j h l = let e = edge j h l in record { from = e .after; before = e .ends }
 
--- ---- a run that is not
-pub looked-run : (vs : List ℤ) (X P : Point) (r : ℕ) → isSkipped vs X P r ≡ false →
-    let i = r * 32 in
-    let to = runEnd (vertexCount vs) r in
-    lookedFrom vs X P i (to - i) ≡ reach (firstFrom (isCoast vs P) i (to - i)) i (to - i)
-unfolding lookedFrom isLooked
-looked-run vs X P r e =
-    let n = vertexCount vs in
-    let i = r * 32 in
-    let k = runEnd n r - i in
-    count-all (isLooked vs X P) i (reach (firstFrom (isCoast vs P) i k) i k)
-    (λ j h l. rw (run-of r j h (omega (arith, h, l, run-size n r, reach-within vs X P i k)), e))
+  pub looked-runs : AreSkipped vs X P a b false → lookedFrom vs X P i k ≡ reach (firstFrom (isCoast vs P) i k) i k
+  unfolding lookedFrom isLooked
+  looked-runs all =
+      count-all (isLooked vs X P) i (reach (firstFrom (isCoast vs P) i k) i k)
+      (λ j h l. rw (skips all j h (omega (arith, l, reach-within vs X P i k))))
+
+-- no run, one, and more of them
+module _ (vs : List ℤ) (X P : Point) {t : Bool} where
+  pub no-run : (a : ℕ) → AreSkipped vs X P a a t
+  no-run a = record { each = λ r h l m. absurd (omega (arith, h, l)) }
+
+  pub one-run : (a : ℕ) → (a < runCount (vertexCount vs) → isSkipped vs X P a ≡ t) → AreSkipped vs X P a (a + 1) t
+  one-run a e = record { each = λ r h l m. go r (omega (arith, h, l)) m }
+    where
+      go : (r : ℕ) → a ≡ r → r < runCount (vertexCount vs) → isSkipped vs X P r ≡ t
+      go r same m = subst (λ r. isSkipped vs X P r ≡ t) same (e (omega (arith, m, same)))
+
+pub more-runs : {vs : List ℤ} {X P : Point} {a b c : ℕ} {t : Bool} → AreSkipped vs X P a b t →
+    AreSkipped vs X P b c t → AreSkipped vs X P a c t
+more-runs {vs} {X} {P} {a} {b} {c} {t} all more = record { each = λ r h l m. go r h l m (ltb r b) refl }
+  where
+    go : (r : ℕ) → a ≤ r → r < c → r < runCount (vertexCount vs) → (u : Bool) → ltb r b ≡ u → isSkipped vs X P r ≡ t
+    go r h l m true e = all .each r h (ltb-true r b e) m
+    go r h l m false e = more .each r (ltb-false r b e) l m

@@ -1,9 +1,9 @@
 -- What a walk has told before edge i. Defined: Told. Proved, in order: crossed-parts, held-found (what a tally says of
--- its parts); told-start, told-block (k edges more), told-held, told-end, held-at; met-held, met-way (one edge);
+-- its parts); told-start, told-block (k edges more), told-none, told-held, told-end, held-at; met-held, met-way (one edge);
 -- looked-block, looked-held, reach-within, looked-bound, reach-tally, tally-among (the edges looked at); told-few,
 -- told-small; all-left,
 -- walk-passed, walk-held, verdict-tally. Assumes nothing.
-use mathlib.Core.Path.{_≡_, refl, sym, ap, _∙_}
+use mathlib.Core.Path.{_≡_, refl, sym, ap, _∙_, subst}
 use mathlib.Core.Bool.{Bool, true, false, not, cond}
 use mathlib.Core.List.{List}
 use Prim.Native.Nat.{ℕ, suc, _+_, _-_, _≤_, _<_}
@@ -80,6 +80,14 @@ module _ {vs : List ℤ} {X P : Point} where
           total = rw (so-far from i k h) (sum-append (wayOf vs X P) from (i - from) k
               ∙ rw (here from i h, t .total, parts .total));
         }
+
+    -- edges that say nothing
+    pub told-none : (to : ℕ) → i + k ≡ to → tallyFrom vs X P i k ≡ Crossed 0 (pos 0) → Told vs X P from to crossed sum
+    told-none to there e =
+        let plain : crossed + 0 ≡ crossed = omega arith in
+        subst (λ i. Told vs X P from i crossed sum) there
+        (subst (λ s. Told vs X P from (i + k) crossed s) (+ℤ-idr sum)
+        (subst (λ c. Told vs X P from (i + k) c (sum +ℤ pos 0)) plain (told-block e)))
 
     pub told-held : (to : ℕ) {edge : ℕ} → i + k ≤ to → tallyFrom vs X P i k ≡ Held edge →
         firstFrom (isCoast vs P) from (to - from) ≡ At edge

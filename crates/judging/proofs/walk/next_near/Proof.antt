@@ -2,40 +2,35 @@
 use mathlib.Core.Path.{_≡_, _∙_}
 use mathlib.Core.Bool.{Bool, not}
 use mathlib.Core.List.{List}
-use Prim.Native.Nat.{ℕ, _+_, _-_, _≤_, _<_}
+use Prim.Native.Nat.{ℕ, _+_, _-_, _<_}
 use native.Mathlib.Omega.{arith}
 use borrow.Author.Needs.{needs}
+use borrow.Author.Tests.{lt-ltb, le-ltb}
 use lib.IntN.{ℤ}
 use mir.Syntax.{w64}
 use mir.Val.{toZ, ofZ}
-use mir.ValLaws.{toZ-ofZ}
 use Rattle.integers.proofs.Compare.{result-same}
 use Rattle.sphere.specs.declared.point.Point.{Point}
-use Rattle.polygon.specs.declared.answer.Found.the-variants.{Nothing}
-use Rattle.polygon.specs.Search.{firstFrom}
-use Rattle.judging.specs.Scan.{sideOf, Sided, isNear, nearFrom}
-use Rattle.judging.proofs.Laws.Scanned.{scan-start, scan-step, scan-hit}
+use Rattle.polygon.specs.Vertices.{nextOf}
+use Rattle.judging.specs.Scan.{sideOf, Sided, isNear}
+use Rattle.judging.proofs.Laws.Scanned.{Scanning, scan-start, scan-step, scan-hit, scan-end, sided-held}
 use Rattle.judging.proofs.walk.next_near.Statement.{statement}
 use Rattle.judging.proofs.walk.next_near.Tie as tie
 
 record Scanned (vs : List ℤ) (N : Point) (i last edge s1 : ℕ) : Type 0 where
-  after : i ≤ edge
-  before : edge - i ≤ last - i
+  scan : Scanning (isNear vs N) i last edge
   side : Sided vs N edge (toZ w64 s1)
-  none : firstFrom (isNear vs N) i (edge - i) ≡ Nothing
 
 abbrev Inv-loop : tie.InvT-loop
-Inv-loop vertices normal i side last edge₀ s1₀ edge s1 = Scanned vertices normal i last edge s1
+Inv-loop vertices normal home i side last edge₀ s1₀ edge s1 = Scanned vertices normal i last edge s1
 
 abbrev μ-loop : tie.MeasureT-loop
-μ-loop vertices normal i side last edge₀ s1₀ edge s1 = last - edge
+μ-loop vertices normal home i side last edge₀ s1₀ edge s1 = last - edge
 
 loop-holds : tie.Need-loop-holds Inv-loop μ-loop
 loop-holds c = record {
-  after = omega arith;
-  before = omega arith;
-  side = record { known = λ h. toZ-ofZ w64 (c .args .side) (c .fits .side) ∙ c .pre .1 .1 .known h };
-  none = scan-start _ (c .args .i);
+  scan = scan-start;
+  side = sided-held (c .fits .side) (c .pre .1 .1 .0);
 }
 
 add-vertex-at : tie.Need-add-vertex-at Inv-loop μ-loop
@@ -80,13 +75,14 @@ module _ (c : tie.After-is-beside Inv-loop μ-loop) where
   near e = rw (← first, ← second, ← c .is-beside .ensures) e
 
 returns : tie.Need-returns Inv-loop μ-loop
-unfolding nearFrom
+unfolding nextOf
 returns c =
     let b = c .before in
     let inv = walk b .loop .inv in
-    let hit = scan-hit _ (start b .args .i) (walk b .loop .edge) (inv .after) (inv .none) (start b .args .last) (more b)
-    (near b (c .if1 .taken)) in
-    (rw hit, inv .side)
+    let last = start b .args .last in
+    let edge = walk b .loop .edge in
+    let inner = lt-ltb (edge + 1) (last + 1) (omega (arith, more b)) in
+    (scan-hit (inv .scan) (more b) (near b (c .if1 .taken)), inv .side, record { known = λ h. second b ∙ rw inner })
 
 add-edge : tie.Need-add-edge Inv-loop μ-loop
 add-edge c =
@@ -98,23 +94,21 @@ loop-less c = omega (arith, more (c .before))
 loop-again : tie.Need-loop-again Inv-loop μ-loop
 loop-again c =
     let b = c .before in
-    let inv = walk b .loop .inv in
     record {
-      after = omega (arith, inv .after);
-      before = omega (arith, inv .after, more b);
+      scan = scan-step (walk b .loop .inv .scan) (more b) (near b (c .if1 .left));
       side = record { known = λ h. second b };
-      none = scan-step _ (start b .args .i) (walk b .loop .edge) (inv .after) (inv .none) (near b (c .if1 .left));
     }
 
 returns-2 : tie.Need-returns-2 Inv-loop μ-loop
-unfolding nearFrom
+unfolding nextOf
 returns-2 c =
-    let l = c .before in
-    let inv = l .loop .inv in
-    let a = l .before .args in
-    let all : a .last - a .i ≡ l .loop .edge - a .i = omega (arith, c .loop-test .left, inv .before, inv .after) in
-    let there : a .i + (l .loop .edge - a .i) ≡ l .loop .edge = omega (arith, inv .after) in
-    (rw (all, inv .none, there), inv .side)
+    let inv = c .before .loop .inv in
+    let s = c .before .before in
+    let end = le-ltb (c .before .loop .edge + 1) (s .args .last + 1) (omega (arith, c .loop-test .left)) in (
+      scan-end (inv .scan) (c .loop-test .left),
+      inv .side,
+      rw end (sided-held (s .fits .home) (s .pre .1 .1 .1)),
+    )
 
 pub next-near-spec : {M : Type 1} → statement M
 next-near-spec =

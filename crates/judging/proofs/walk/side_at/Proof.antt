@@ -1,0 +1,30 @@
+-- `side_at` meets its contract. Assumes nothing.
+use mathlib.Core.Path.{_∙_, sym, ap}
+use native.Mathlib.Omega.{arith}
+use mir.Syntax.{w64}
+use Rattle.integers.proofs.Compare.{result-same}
+use Rattle.judging.specs.Scan.{sideOf}
+use Rattle.judging.proofs.Laws.Scanned.{sided-held}
+use Rattle.judging.proofs.walk.side_at.Statement.{statement}
+use Rattle.judging.proofs.walk.side_at.Tie as tie
+
+returns : tie.Need-returns
+returns c =
+    let s = c .before in
+    sided-held (s .fits .home) (s .pre .1) .known (omega (arith, s .pre .0 .2))
+    ∙ ap (λ i. sideOf (s .args .vertices .now) (s .args .normal) i) (sym (c .if1 .taken))
+
+vertex-at-requires : tie.Need-vertex-at-requires
+vertex-at-requires c κs = omega (arith, c .before .pre .0 .2)
+
+dot-requires : tie.Need-dot-requires
+dot-requires c κs =
+    let s = c .before .before in
+    (s .pre .0 .1, rw (c .vertex-at .ensures) (s .pre .0 .0 .each (s .args .i) (s .pre .0 .2)))
+
+returns-2 : tie.Need-returns-2
+returns-2 c =
+    let d = c .dot in result-same w64 (d .result) (d .ok) (rw (c .before .vertex-at .ensures) at (d .ensures))
+
+pub side-at-spec : {M : Type 1} → statement M
+side-at-spec = tie.close (tie.spec returns vertex-at-requires dot-requires returns-2)
