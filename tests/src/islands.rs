@@ -217,6 +217,32 @@ mod tests {
         tally.report("islands", 4_000, [1, 2, 3, 18]);
     }
 
+    /// Up to 3,072 bytes of sheet a call has room for 256 vertices only: sheets of 3,057 to 3,108 bytes, whole,
+    /// with a byte too many, with one too few, and with more vertices announced than there are.
+    #[test]
+    fn short_and_long_sheets() {
+        let mut tally = Tally::default();
+        for sides in [252, 253] {
+            let islands = islands(1, sides, Extent::Archipelago);
+            let queries = queries(2, &islands, 40);
+            for name in 1..=40 {
+                let mut sheet = Sheet::new(islands.known, &islands.vertices);
+                sheet.name = vec![b'A'; name];
+                let whole = sheet.bytes();
+                for &query in &queries {
+                    tally.compare(&whole, query);
+                }
+                let mut announced = whole.clone();
+                let row = whole.len() - 12 * sides;
+                announced[row - 2..row].copy_from_slice(&49_152u16.to_be_bytes());
+                for bad in [[&whole[..], &[0]].concat(), whole[..whole.len() - 1].to_vec(), announced] {
+                    tally.compare(&bad, queries[0]);
+                }
+            }
+        }
+        tally.report("short and long sheets", 3_000, [1, 2, 3, 20, 24]);
+    }
+
     /// Every query is on the grid, about a third of the 17,087 are inside (in document 000 it was
     /// 6,160), and every machine makes the same bytes: a changed digest is a changed benchmark.
     #[test]

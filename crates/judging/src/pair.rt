@@ -1,55 +1,40 @@
 // A second reference point (document 02, P4: a second known point), for the query that is antipodal to the first.
-// Here, in order: accepts, is_second, second_check (19), pair_check (10 to 16, 19), optional_check;
-// judge_called_boxed, judge_called, judge_pair; choose_second. A point that is all zero is no second point. The polygon
-// is checked once: of a candidate only lines 15 and 16 are left to check. Assumes nothing.
+// Here, in order: is_second, second_check (19), pair_check (10 to 16, 19), optional_check; judge_called_boxed,
+// judge_called, judge_pair; earliest, choose_second. A point that is all zero is no second point. The polygon is checked once: of a
+// candidate only lines 15 and 16 are left to check. Assumes nothing.
 ghost use mathlib.Core.Path.{_≡_};
 ghost use Rattle.sphere.specs.Point.{coarse};
 ghost use Rattle.polygon.specs.declared.answer.Check.the-variants.{Passed};
-ghost use Rattle.polygon.specs.Checks.{polygonCheck, acceptCheck};
-ghost use Rattle.polygon.specs.Pair.{isPassed, isSecond, secondCheck, pairCheck, optionalCheck};
-ghost use Rattle.polygon.specs.Pair.{pairAnswerOf, chooseOf};
+ghost use Rattle.polygon.specs.Checks.{acceptCheck};
+ghost use Rattle.polygon.specs.Pair.{isSecond, secondCheck, pairCheck, optionalCheck};
+ghost use Rattle.polygon.specs.Pair.{pairAnswerOf, earliestOf, chooseOf};
 ghost use Rattle.judging.specs.Boxes.{Boxed};
 ghost use Rattle.judging.specs.Called.{calledJudgementOf};
 use crate::boxes;
 use crate::judge::Judgement;
 use crate::judge::judge_boxed;
-use crate::judge::judge_query;
 use polygon::answer;
 use polygon::answer::Answer;
 use polygon::answer::Check;
 use polygon::checks::accept_check;
-use polygon::checks::circle_check;
-use polygon::checks::reference_check;
+use polygon::checks::accepts;
 use polygon::vertices::vertex_at;
 use sphere::direction::same_direction;
 use sphere::point::Point;
 use sphere::point::is_null;
 
-// A checked polygon accepts the point as its reference point.
-fn accepts(vertices: &[i32], point: Point) -> bool
-    requires { ⌜ polygonCheck coarse (now vertices) ≡ Passed ⌝ }
-    ensures { λ r. ⌜ r ≡ isPassed (acceptCheck coarse (now (vertices .entry)) point) ⌝ }
-{
-    match reference_check(point) {
-        Check::Passed => {}
-        Check::Failed(_, _) => return false,
-    }
-    match circle_check(vertices, point) {
-        Check::Passed => true,
-        Check::Failed(_, _) => false,
-    }
-}
-
 // What a candidate has to pass, beside the first point. It is judged last, as that costs most.
-pub fn is_second(vertices: &[i32], known: Point, candidate: Point) -> bool
-    requires { ⌜ acceptCheck coarse (now vertices) known ≡ Passed ⌝ }
+pub fn is_second(vertices: &[i32], boxes: &[i32], known: Point, candidate: Point) -> bool
+    requires { ⌜ (acceptCheck coarse (now vertices) known ≡ Passed) × Boxed (now vertices) (now boxes) ⌝ }
     ensures { λ r. ⌜ r ≡ isSecond coarse (now (vertices .entry)) known candidate ⌝ }
 {
     if accepts(vertices, candidate) {
         if same_direction(known, candidate) {
             return false;
         }
-        return answer::number(judge_query(vertices, known, candidate)) == 1;
+        let judged = judge_boxed(vertices, boxes, known, candidate);
+        let answer = judged.answer;
+        return answer::number(answer) == 1;
     }
     false
 }
@@ -58,7 +43,9 @@ pub fn second_check(vertices: &[i32], known: Point, second: Point) -> Check
     requires { ⌜ acceptCheck coarse (now vertices) known ≡ Passed ⌝ }
     ensures { λ r. ⌜ r ≡ secondCheck coarse (now (vertices .entry)) known second ⌝ }
 {
-    if is_second(vertices, known, second) {
+    let mut boxes = [0i32; 768];
+    boxes::fill(vertices, &mut boxes);
+    if is_second(vertices, &boxes, known, second) {
         return Check::Passed;
     }
     Check::Failed(19, 0)
@@ -133,7 +120,21 @@ pub fn judge_pair(vertices: &[i32], known: Point, second: Point, query: Point) -
     judge_called(vertices, known, second, query).answer
 }
 
-// The earliest candidate that passes, by its number: any numbers, and any number of candidates.
+// The earliest candidate that passes, by its number.
+fn earliest(vertices: &[i32], boxes: &[i32], known: Point, candidates: &[i32]) -> Answer
+    requires { ⌜ (acceptCheck coarse (now vertices) known ≡ Passed) × Boxed (now vertices) (now boxes) ⌝ }
+    ensures { λ r. ⌜ r ≡ earliestOf coarse (now (vertices .entry)) known (now (candidates .entry)) ⌝ }
+{
+    let n = candidates.len() / 3;
+    for i in 0..n {
+        if is_second(vertices, boxes, known, vertex_at(candidates, i)) {
+            return Answer::Done(i);
+        }
+    }
+    Answer::Refused(19, 0)
+}
+
+// The same for any numbers, and any number of candidates.
 pub fn choose_second(vertices: &[i32], known: Point, candidates: &[i32]) -> Answer
     ensures { λ r. ⌜ r ≡ chooseOf coarse (now (vertices .entry)) known (now (candidates .entry)) ⌝ }
 {
@@ -144,11 +145,7 @@ pub fn choose_second(vertices: &[i32], known: Point, candidates: &[i32]) -> Answ
         Check::Passed => {}
         Check::Failed(number, place) => return Answer::Refused(number, place),
     }
-    let n = candidates.len() / 3;
-    for i in 0..n {
-        if is_second(vertices, known, vertex_at(candidates, i)) {
-            return Answer::Done(i);
-        }
-    }
-    Answer::Refused(19, 0)
+    let mut boxes = [0i32; 768];
+    boxes::fill(vertices, &mut boxes);
+    earliest(vertices, &boxes, known, candidates)
 }

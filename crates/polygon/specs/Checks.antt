@@ -1,9 +1,9 @@
 -- Document 01's lines 10 to 18, each as its own check, and their order: the lowest number that holds, over the whole
--- list. Defined, in order: _then_, failsHere, failsIf, failsAt; listCheck (10), beyondCheck (11), nullCheck (12),
+-- list. Defined, in order: _then_, isPassed, failsHere, failsIf, failsAt; listCheck (10), beyondCheck (11), nullCheck (12),
 -- sameCheck (13), antipodalCheck (14), referenceCheck (15), circleCheck (16), queryCheck (17), farCheck (18);
 -- polygonCheck (10 to 14), acceptCheck (10 to 16), judgeCheck (10 to 18). The reference point is document 01's known
 -- point. Assumes nothing.
-use mathlib.Core.Bool.{Bool, not, _&&_, cond}
+use mathlib.Core.Bool.{Bool, true, false, not, _&&_, cond}
 use mathlib.Core.List.{List}
 use Prim.Native.Nat.{ℕ, _/_, _%_}
 use lib.Dec.{eqb, leb}
@@ -26,6 +26,10 @@ infixr 30 _then_
 abbrev pub _then_ : Check → Check → Check
 Passed then next = next
 Failed number place then next = Failed number place
+
+abbrev pub isPassed : Check → Bool
+isPassed Passed = true
+isPassed (Failed number place) = false
 
 -- A check of one thing, with its place or with place 0, and of a list, with the lowest place.
 abbrev pub failsHere : ℕ → ℕ → Bool → Check

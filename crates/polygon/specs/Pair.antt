@@ -1,8 +1,8 @@
 -- Document 02, P4: a second reference point (there: known point), for the query that is antipodal to the first.
--- Defined, in order: isPassed, isSecond (what a candidate has to pass), secondCheck (19), pairCheck (10 to 16, 19);
+-- Defined, in order: isSecond (what a candidate has to pass), secondCheck (19), pairCheck (10 to 16, 19);
 -- judgeFrom (the point that judges), pairAnswerOf; optionalCheck, calledOf (a second point or none: all zero is none);
--- isWhole, chosen, chooseOf (the earliest candidate that passes). Laws: proofs/Laws/Pair. Assumes nothing.
-use mathlib.Core.Bool.{Bool, true, false, not, _&&_, cond}
+-- isWhole, chosen, earliestOf, chooseOf (the earliest candidate that passes). Laws: proofs/Laws/Pair. Assumes nothing.
+use mathlib.Core.Bool.{Bool, not, _&&_, cond}
 use mathlib.Core.List.{List}
 use Prim.Native.Nat.{ℕ, _%_}
 use lib.Dec.{eqb}
@@ -16,16 +16,12 @@ use Rattle.polygon.specs.declared.answer.Found.the-variants.{Nothing, At
 use Rattle.polygon.specs.declared.answer.Answer.{Answer}
 use Rattle.polygon.specs.declared.answer.Answer.the-variants.{Done, Refused}
 use Rattle.polygon.specs.declared.answer.Check.{Check}
-use Rattle.polygon.specs.declared.answer.Check.the-variants.{Passed, Failed}
+use Rattle.polygon.specs.declared.answer.Check.the-variants.{Passed}
 use Rattle.polygon.specs.Search.{firstFrom}
 use Rattle.polygon.specs.Vertices.{vertexCount, vertexAt}
 use Rattle.polygon.specs.Answer.{numberOf, answerAfter}
-use Rattle.polygon.specs.Checks.{_then_, failsIf, acceptCheck}
+use Rattle.polygon.specs.Checks.{_then_, isPassed, failsIf, acceptCheck}
 use Rattle.polygon.specs.Verdict.{answerOf}
-
-abbrev pub isPassed : Check → Bool
-isPassed Passed = true
-isPassed (Failed number place) = false
 
 -- Y passes beside X: the polygon accepts it as a reference point, it differs in direction, and X calls it inside.
 unfoldable pub isSecond : ℕ → List ℤ → Point → Point → Bool
@@ -65,7 +61,9 @@ chosen Nothing = Refused 19 0
 chosen (At place) = Done place
 
 -- The earliest candidate that passes. One that does not is passed over, whatever is wrong with it.
+unfoldable pub earliestOf : ℕ → List ℤ → Point → List ℤ → Answer
+earliestOf limit vs X cs = chosen (firstFrom (λ i. isSecond limit vs X (vertexAt cs i)) 0 (vertexCount cs))
+
 unfoldable pub chooseOf : ℕ → List ℤ → Point → List ℤ → Answer
 chooseOf limit vs X cs =
-    answerAfter (failsIf 10 (not (isWhole cs)) then acceptCheck limit vs X)
-    (chosen (firstFrom (λ i. isSecond limit vs X (vertexAt cs i)) 0 (vertexCount cs)))
+    answerAfter (failsIf 10 (not (isWhole cs)) then acceptCheck limit vs X) (earliestOf limit vs X cs)

@@ -1,13 +1,14 @@
 // Document 01's lines 10 to 18, each as its own check, and their order.
 // Here, in order: fails_if; list_check (10), beyond_check (11), null_check (12), same_check (13), antipodal_check (14),
-// reference_check (15), circle_check (16), query_check (17), far_check (18); polygon_check (10 to 14), accept_check (10
-// to 16). Each check of the list passes over it once and reads each vertex once. Those after line 11 rest on the grid.
-// Assumes nothing.
+// reference_check (15), circle_check (16), query_check (17), far_check (18); polygon_check (10 to 14); accepts,
+// is_accepted, accept_check (10 to 16). Each check of the list passes over it once and reads each vertex once. Those
+// after line 11 rest on the grid. Assumes nothing.
 ghost use mathlib.Core.Path.{_≡_};
 ghost use Rattle.sphere.specs.Point.{coarse, Within};
+ghost use Rattle.polygon.specs.declared.answer.Check.the-variants.{Passed};
 ghost use Rattle.polygon.specs.Checks.{failsIf, listCheck, beyondCheck, nullCheck, sameCheck, antipodalCheck};
 ghost use Rattle.polygon.specs.Checks.{referenceCheck, circleCheck, queryCheck, farCheck};
-ghost use Rattle.polygon.specs.Checks.{polygonCheck, acceptCheck};
+ghost use Rattle.polygon.specs.Checks.{isPassed, polygonCheck, acceptCheck};
 ghost use Rattle.polygon.specs.Accepted.{Listed, Gridded};
 use crate::answer::Check;
 use crate::vertices::end_of;
@@ -161,10 +162,44 @@ pub fn polygon_check(vertices: &[i32]) -> Check
     antipodal_check(vertices)
 }
 
-// The polygon with its reference point.
+// The polygon accepts the point as its reference point, where lines 10 and 11 hold. Off the circle of each edge there is
+// no null vertex, nor an edge with its ends on one line: lines 12 to 14 need no passes of their own.
+pub fn accepts(vertices: &[i32], point: Point) -> bool
+    requires { ⌜ (listCheck (now vertices) ≡ Passed) × (beyondCheck coarse (now vertices) ≡ Passed) ⌝ }
+    ensures { λ r. ⌜ r ≡ isPassed (acceptCheck coarse (now (vertices .entry)) point) ⌝ }
+{
+    match reference_check(point) {
+        Check::Passed => {}
+        Check::Failed(_, _) => return false,
+    }
+    match circle_check(vertices, point) {
+        Check::Passed => true,
+        Check::Failed(_, _) => false,
+    }
+}
+
+// All checks pass, by two passes over the list.
+fn is_accepted(vertices: &[i32], known: Point) -> bool
+    ensures { λ r. ⌜ r ≡ isPassed (acceptCheck coarse (now (vertices .entry)) known) ⌝ }
+{
+    match list_check(vertices) {
+        Check::Passed => {}
+        Check::Failed(_, _) => return false,
+    }
+    match beyond_check(vertices) {
+        Check::Passed => {}
+        Check::Failed(_, _) => return false,
+    }
+    accepts(vertices, known)
+}
+
+// The polygon with its reference point. Which line refuses it is worked out only if one does.
 pub fn accept_check(vertices: &[i32], known: Point) -> Check
     ensures { λ r. ⌜ r ≡ acceptCheck coarse (now (vertices .entry)) known ⌝ }
 {
+    if is_accepted(vertices, known) {
+        return Check::Passed;
+    }
     match polygon_check(vertices) {
         Check::Passed => {}
         Check::Failed(number, place) => return Check::Failed(number, place),

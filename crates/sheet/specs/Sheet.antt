@@ -1,10 +1,11 @@
 -- Document 01, 'The zone sheet', second layer: what the fields mean, and what reading hands back. Defined, in order:
 -- zoneOf, charsetOf, nameAt, nameLength, nameOf, knownOf, vertexCountOf, verticesOf, secondOf; plainCheck (20 to 24,
--- then 11 to 16), carriedCheck (19), sheetCheck (all of them); refusedSheet, readAfter, readOf; loadedOf, decodedOf. On
+-- then 11 to 16), carriedCheck (19), sheetCheck (all of them); refusedSheet, readAfter, readOf; loadedOf, roomFor, decodedOf.
+-- On
 -- bytes that are no sheet the parts mean nothing and only sheetCheck counts. Assumes nothing.
 use mathlib.Core.Bool.{cond}
 use mathlib.Core.List.{List, _++_}
-use Prim.Native.Nat.{ℕ, _+_, _*_, _/_}
+use Prim.Native.Nat.{ℕ, _+_, _*_, _-_, _/_}
 use lib.IntN.{ℤ, pos}
 use lib.ListN.{length, take, drop}
 use Rattle.sphere.specs.declared.point.Point.{Point}
@@ -102,6 +103,10 @@ loadedAfter Passed b out = verticesOf b ++ drop (vertexCountOf b * 3) out
 -- What loading leaves in the numbers that a user lends: the vertices of an accepted sheet, and else all as it was.
 unfoldable pub loadedOf : List ℕ → List ℤ → List ℤ
 loadedOf b out = loadedAfter (sheetCheck b) b out
+
+-- Numbers enough for the vertices of a sheet of these bytes: a quarter of them, and at most those of 4,096 vertices.
+abbrev pub roomFor : List ℕ → ℕ
+roomFor b = length b / 4 - (length b / 4 - 12288)
 
 -- What the checks leave in their own scratch space: the vertices, as soon as the fields are sound.
 unfoldable pub decodedOf : List ℕ → List ℤ → List ℤ

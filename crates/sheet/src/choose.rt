@@ -1,5 +1,5 @@
 // Choosing a second point for a sheet: document 02's P4. Any bytes; nothing is written.
-// Here, in order: candidate_at, first_second, choose. Candidates have twelve bytes each, and there is any number of
+// Here, in order: candidate_at, earliest, first_second, choose. Candidates have twelve bytes each, and there is any number of
 // them: they are decoded one at a time. Assumes nothing.
 ghost use mathlib.Core.Path.{_≡_};
 ghost use Prim.Native.Nat.{_<_};
@@ -8,9 +8,11 @@ ghost use Rattle.polygon.specs.declared.answer.Check.the-variants.{Passed};
 ghost use Rattle.polygon.specs.Vertices.{vertexAt};
 ghost use Rattle.polygon.specs.Checks.{acceptCheck};
 ghost use Rattle.polygon.specs.Pair.{chooseOf};
+ghost use Rattle.judging.specs.Boxes.{Boxed};
 ghost use Rattle.sheet.specs.Choose.{candidateCount, candidatesOf, sheetChooseOf};
 use crate::open;
 use big_endian::read;
+use judging::boxes;
 use judging::pair::is_second;
 use polygon::answer::Answer;
 use polygon::answer::Check;
@@ -23,18 +25,28 @@ fn candidate_at(candidates: &[u8], i: usize) -> Point
     read::point_at(candidates, i * 12)
 }
 
-// The earliest candidate that passes, for a polygon that is accepted.
-fn first_second(vertices: &[i32], known: Point, candidates: &[u8]) -> Answer
-    requires { ⌜ acceptCheck coarse (now vertices) known ≡ Passed ⌝ }
+// The earliest candidate that passes, for a polygon that is accepted, with its boxes.
+fn earliest(vertices: &[i32], boxes: &[i32], known: Point, candidates: &[u8]) -> Answer
+    requires { ⌜ (acceptCheck coarse (now vertices) known ≡ Passed) × Boxed (now vertices) (now boxes) ⌝ }
     ensures { λ r. ⌜ r ≡ chooseOf coarse (now (vertices .entry)) known (candidatesOf (now (candidates .entry))) ⌝ }
 {
     let n = candidates.len() / 12;
     for i in 0..n {
-        if is_second(vertices, known, candidate_at(candidates, i)) {
+        if is_second(vertices, boxes, known, candidate_at(candidates, i)) {
             return Answer::Done(i);
         }
     }
     Answer::Refused(19, 0)
+}
+
+// The boxes are built once for all candidates.
+fn first_second(vertices: &[i32], known: Point, candidates: &[u8]) -> Answer
+    requires { ⌜ acceptCheck coarse (now vertices) known ≡ Passed ⌝ }
+    ensures { λ r. ⌜ r ≡ chooseOf coarse (now (vertices .entry)) known (candidatesOf (now (candidates .entry))) ⌝ }
+{
+    let mut boxes = [0i32; 768];
+    boxes::fill(vertices, &mut boxes);
+    earliest(vertices, &boxes, known, candidates)
 }
 
 // The earliest candidate that passes beside the sheet's known point. The sheet's own second point is not looked at.

@@ -1,7 +1,11 @@
 // Judging by a sheet's bytes, from its known point or, for a query opposite that, from its second point. Any bytes and
 // any query; nothing is written.
-// Here, in order: judgement (the answer, and the number of edges looked at), judge, looked. Assumes nothing.
+// Here, in order: judgement_in, judgement (the answer, and the number of edges looked at), judge, looked. Assumes
+// nothing.
 ghost use mathlib.Core.Path.{_≡_};
+ghost use Prim.Native.Nat.{_≤_};
+ghost use lib.ListN.{length};
+ghost use Rattle.sheet.specs.Sheet.{roomFor, decodedOf};
 ghost use Rattle.sheet.specs.Judge.{sheetAnswerOf, sheetLookedOf, sheetJudgementOf};
 use crate::open;
 use judging::judge::Judgement;
@@ -11,11 +15,13 @@ use polygon::answer::Answer;
 use polygon::answer::Check;
 use sphere::point::Point;
 
-fn judgement(b: &[u8], query: Point) -> Judgement
-    ensures { λ r. ⌜ r ≡ sheetJudgementOf (now (b .entry)) query ⌝ }
+// The vertices are decoded to the front of `scratch`.
+fn judgement_in(b: &[u8], query: Point, scratch: &mut [i32]) -> Judgement
+    requires { ⌜ roomFor (now b) ≤ length (now scratch) ⌝ }
+    ensures { λ r. ⌜ (r ≡ sheetJudgementOf (now (b .entry)) query)
+        × (now (scratch .exit) ≡ decodedOf (now (b .entry)) (now (scratch .entry))) ⌝ }
 {
-    let mut scratch = [0i32; 12288];
-    match open::open(b, &mut scratch) {
+    match open::open_into(b, scratch) {
         Check::Passed => {
             let size = open::vertex_count(b) * 3;
             judge_called(
@@ -27,6 +33,18 @@ fn judgement(b: &[u8], query: Point) -> Judgement
         }
         Check::Failed(number, place) => refused(number, place),
     }
+}
+
+// A short sheet, of up to 256 vertices, gets little scratch space: clearing more would be most of the call.
+fn judgement(b: &[u8], query: Point) -> Judgement
+    ensures { λ r. ⌜ r ≡ sheetJudgementOf (now (b .entry)) query ⌝ }
+{
+    if b.len() <= 3072 {
+        let mut little = [0i32; 768];
+        return judgement_in(b, query, &mut little);
+    }
+    let mut scratch = [0i32; 12288];
+    judgement_in(b, query, &mut scratch)
 }
 
 pub fn judge(b: &[u8], query: Point) -> Answer

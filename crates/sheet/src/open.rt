@@ -9,7 +9,7 @@ ghost use lib.ListN.{length, drop};
 ghost use Rattle.polygon.specs.declared.answer.Check.the-variants.{Passed};
 ghost use Rattle.sheet.specs.Fields.{fiveFields, sheetFields};
 ghost use Rattle.sheet.specs.Sheet.{plainCheck, carriedCheck, sheetCheck, knownOf, vertexCountOf, verticesOf};
-ghost use Rattle.sheet.specs.Sheet.{secondOf, decodedOf};
+ghost use Rattle.sheet.specs.Sheet.{secondOf, roomFor, decodedOf};
 use crate::fields;
 use big_endian::read;
 use judging::pair;
@@ -53,7 +53,7 @@ pub fn decode_vertices(b: &[u8], n: usize, out: &mut [i32])
 // The checks of a sheet without its second point. The polygon is decoded to the front of `scratch`, also one that is
 // then refused.
 fn plain_into(b: &[u8], scratch: &mut [i32]) -> Check
-    requires { ⌜ 12288 ≤ length (now scratch) ⌝ }
+    requires { ⌜ roomFor (now b) ≤ length (now scratch) ⌝ }
     ensures { λ r. ⌜ (r ≡ plainCheck (now (b .entry)))
         × (now (scratch .exit) ≡ decodedOf (now (b .entry)) (now (scratch .entry))) ⌝ }
 {
@@ -78,8 +78,8 @@ fn carried_check(b: &[u8], vertices: &[i32]) -> Check
 }
 
 // All checks of a sheet.
-fn open_into(b: &[u8], scratch: &mut [i32]) -> Check
-    requires { ⌜ 12288 ≤ length (now scratch) ⌝ }
+pub fn open_into(b: &[u8], scratch: &mut [i32]) -> Check
+    requires { ⌜ roomFor (now b) ≤ length (now scratch) ⌝ }
     ensures { λ r. ⌜ (r ≡ sheetCheck (now (b .entry)))
         × (now (scratch .exit) ≡ decodedOf (now (b .entry)) (now (scratch .entry))) ⌝ }
 {

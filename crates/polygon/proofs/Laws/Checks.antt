@@ -1,8 +1,8 @@
 -- What a check that passed establishes.
--- Proved, in order: failed-not-passed, here-passed, fails-at-passed, then-passed; list-passed, beyond-passed,
--- reference-passed, query-passed, circle-passed; polygon-passed, accept-passed; Reference (all that lines 10 to 16 say
--- of a reference point), reference-accepted, reference→query. The checks 12 to 14 establish facts that no proof rests
--- on. Assumes nothing.
+-- Proved, in order: failed-not-passed, passed, here-passed, fails-at-passed, then-passed; list-passed, beyond-passed,
+-- reference-passed, query-passed, circle-passed; polygon-first, polygon-passed, accept-passed; Reference (all that lines 10 to 16 say
+-- of a reference point), reference-accepted, reference→query; circle→shape (lines 12 to 14 hold where line 16 does),
+-- accept-short. The checks 12 to 14 establish facts that no proof rests on. Assumes nothing.
 use mathlib.Core.Path.{_≡_, refl, sym, _∙_, ap}
 use mathlib.Core.Bool.{Bool, true, false, not, _&&_, true≢false}
 use mathlib.Core.List.{List}
@@ -14,24 +14,31 @@ use lib.IntN.{ℤ, pos}
 use lib.ListN.{length}
 use Rattle.integers.specs.Sign.{signOf, isZero}
 use Rattle.sphere.specs.declared.point.Point.{Point}
-use Rattle.sphere.specs.Point.{Within, isBeyond, isOffGrid}
+use Rattle.sphere.specs.Point.{Within, isNull, isBeyond, isOffGrid}
 use Rattle.sphere.specs.Orientation.{orientationOf}
+use Rattle.sphere.specs.Direction.{isSameDirection, isAntipodal}
 use Rattle.sphere.proofs.Laws.Grid.{beyond→within, off-grid→within}
+use Rattle.sphere.proofs.Laws.Orientation.{off→apart, off→some}
 use Rattle.polygon.specs.declared.answer.Found.{Found}
 use Rattle.polygon.specs.declared.answer.Found.the-variants.{Nothing, At}
 use Rattle.polygon.specs.declared.answer.Check.{Check}
 use Rattle.polygon.specs.declared.answer.Check.the-variants.{Passed, Failed}
 use Rattle.polygon.specs.Search.{firstFrom}
 use Rattle.polygon.specs.Vertices.{vertexCount, vertexAt, startOf, endOf}
-use Rattle.polygon.specs.Checks.{_then_, failsHere, failsIf, failsAt, isVertexList, polygonCheck, acceptCheck}
+use Rattle.polygon.specs.Checks.{_then_, isPassed, failsHere, failsIf, failsAt, isVertexList}
 use Rattle.polygon.specs.Checks.{listCheck, beyondCheck, nullCheck, sameCheck, antipodalCheck}
-use Rattle.polygon.specs.Checks.{referenceCheck, circleCheck, queryCheck}
+use Rattle.polygon.specs.Checks.{referenceCheck, circleCheck, queryCheck, polygonCheck, acceptCheck}
 use Rattle.polygon.specs.Accepted.{Listed, Gridded, Accepted}
+use Rattle.polygon.proofs.Laws.First.{none-first}
 use Rattle.polygon.proofs.Laws.Search.{first-none}
 
 -- A refusal is no pass.
 pub failed-not-passed : {number place : ℕ} {A : Type 0} → Failed number place ≡ Passed → A
 failed-not-passed e = let z : _≡_ {A = ℕ} 0 1 = cc in absurd (omega arith)
+
+pub passed : (c : Check) → isPassed c ≡ true → c ≡ Passed
+passed Passed e = refl
+passed (Failed number place) e = absurd (true≢false (sym e))
 
 pub here-passed : (number place : ℕ) (bad : Bool) → failsHere number place bad ≡ Passed → bad ≡ false
 here-passed number place true e = failed-not-passed e
@@ -94,13 +101,17 @@ circle-passed vs X e i h =
 
 -- ---- chains of checks
 
-pub polygon-passed : {limit : ℕ} {vs : List ℤ} → polygonCheck limit vs ≡ Passed → Listed vs × Gridded limit vs
+pub polygon-first : (limit : ℕ) (vs : List ℤ) → polygonCheck limit vs ≡ Passed →
+    (listCheck vs ≡ Passed) × (beyondCheck limit vs ≡ Passed)
 unfolding polygonCheck
-polygon-passed {limit} {vs} e =
+polygon-first limit vs e =
     let more = nullCheck vs then sameCheck vs then antipodalCheck vs in
     let list = then-passed (listCheck vs) (beyondCheck limit vs then more) e in
-    let grid = then-passed (beyondCheck limit vs) more (list .1) in
-    (list-passed (list .0), beyond-passed (grid .0))
+    (list .0, then-passed (beyondCheck limit vs) more (list .1) .0)
+
+pub polygon-passed : {limit : ℕ} {vs : List ℤ} → polygonCheck limit vs ≡ Passed → Listed vs × Gridded limit vs
+polygon-passed {limit} {vs} e =
+    let first = polygon-first limit vs e in (list-passed (first .0), beyond-passed (first .1))
 
 pub accept-passed : {limit : ℕ} {vs : List ℤ} {X : Point} → acceptCheck limit vs X ≡ Passed → Accepted limit vs X
 unfolding acceptCheck
@@ -132,3 +143,36 @@ module _ (limit : ℕ) (vs : List ℤ) (X : Point) (e : acceptCheck limit vs X �
       ap (failsIf 17)
       (here-passed 15 0 (isOffGrid limit X) (then-passed (referenceCheck limit X) (circleCheck vs X) after-polygon
       .0))
+
+-- ---- a point off the circle of each edge: no vertex is null, and no edge has its ends on one line
+circle→shape : (vs : List ℤ) (X : Point) → circleCheck vs X ≡ Passed →
+    (nullCheck vs then sameCheck vs then antipodalCheck vs) ≡ Passed
+unfolding nullCheck sameCheck antipodalCheck isSameDirection isAntipodal
+circle→shape vs X e =
+    let off = circle-passed vs X e in
+    rw (
+      none-first (λ i. isNull (vertexAt vs i)) 0 (vertexCount vs)
+          (λ i h l. off→some (startOf vs i) (endOf vs i) X (off i (omega (arith, l)))),
+      none-first (λ i. isSameDirection (startOf vs i) (endOf vs i)) 0 (vertexCount vs)
+          (λ i h l. rw (off→apart (startOf vs i) (endOf vs i) X (off i (omega (arith, l))))),
+      none-first (λ i. isAntipodal (startOf vs i) (endOf vs i)) 0 (vertexCount vs)
+          (λ i h l. rw (off→apart (startOf vs i) (endOf vs i) X (off i (omega (arith, l))))),
+    )
+
+-- So after lines 10 and 11 lines 15 and 16 decide whether all of them pass.
+pub accept-short : (limit : ℕ) (vs : List ℤ) (X : Point) → listCheck vs ≡ Passed → beyondCheck limit vs ≡ Passed →
+    isPassed (acceptCheck limit vs X) ≡ isPassed (referenceCheck limit X then circleCheck vs X)
+unfolding acceptCheck polygonCheck
+accept-short limit vs X list beyond = rw (list, beyond) (go (referenceCheck limit X then circleCheck vs X) refl)
+  where
+    shape : Check
+    shape = nullCheck vs then sameCheck vs then antipodalCheck vs
+
+    refusal : (c : Check) (number place : ℕ) → isPassed (c then Failed number place) ≡ false
+    refusal Passed number place = refl
+    refusal (Failed first at) number place = refl
+
+    go : (c : Check) → (referenceCheck limit X then circleCheck vs X) ≡ c → isPassed (shape then c) ≡ isPassed c
+    go Passed e =
+        let circle = then-passed (referenceCheck limit X) (circleCheck vs X) e .1 in rw (circle→shape vs X circle)
+    go (Failed number place) e = refusal shape number place

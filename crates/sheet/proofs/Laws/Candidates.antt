@@ -22,7 +22,7 @@ use Rattle.polygon.specs.Answer.{answerAfter}
 use Rattle.polygon.specs.Search.{firstFrom}
 use Rattle.polygon.specs.Vertices.{vertexCount, vertexAt}
 use Rattle.polygon.specs.Checks.{_then_, acceptCheck}
-use Rattle.polygon.specs.Pair.{isSecond, isWhole, chosen, chooseOf}
+use Rattle.polygon.specs.Pair.{isSecond, isWhole, chosen, earliestOf, chooseOf}
 use Rattle.sheet.specs.Fields.{fieldsCheck}
 use Rattle.sheet.specs.Sheet.{knownOf, verticesOf, plainCheck}
 use Rattle.sheet.specs.Choose.{candidateCount, candidatesOf, wholeCheck, sheetChooseOf}
@@ -66,7 +66,7 @@ pub chosen-accepted : (vs : List ℤ) (X : Point) (candidates : List ℕ) → ac
     {found : Found} →
     firstFrom (λ i. isSecond coarse vs X (vertexAt (candidatesOf candidates) i)) 0 (candidateCount candidates) ≡ found →
     chooseOf coarse vs X (candidatesOf candidates) ≡ chosen found
-unfolding chooseOf
+unfolding chooseOf earliestOf
 chosen-accepted vs X candidates ok e =
     rw (candidates-whole candidates, ok, candidates-count candidates) (ap chosen e)
 

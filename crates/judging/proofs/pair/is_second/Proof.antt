@@ -7,10 +7,11 @@ use lib.Dec.{eqb}
 use Rattle.sphere.specs.Point.{coarse}
 use Rattle.sphere.specs.Direction.{isSameDirection}
 use Rattle.polygon.specs.Answer.{numberOf}
-use Rattle.polygon.specs.Checks.{acceptCheck}
-use Rattle.polygon.specs.Pair.{isPassed, isSecond}
-use Rattle.polygon.proofs.Laws.Checks.{accept-passed}
-use Rattle.polygon.proofs.Laws.Pair.{accept-polygon, passed}
+use Rattle.polygon.specs.Checks.{isPassed, acceptCheck}
+use Rattle.polygon.specs.Pair.{isSecond}
+use Rattle.polygon.proofs.Laws.Checks.{passed, polygon-first, accept-passed}
+use Rattle.polygon.proofs.Laws.Pair.{accept-polygon}
+use Rattle.judging.specs.Walk.{judgementOf}
 use Rattle.judging.proofs.pair.is_second.Statement.{statement}
 use Rattle.judging.proofs.pair.is_second.Tie as tie
 
@@ -24,29 +25,31 @@ same : (c : tie.After-same-direction) {t : Bool} → c .same-direction .result �
 same c e = sym (c .same-direction .ensures) ∙ e
 
 accepts-requires : tie.Need-accepts-requires
-accepts-requires c κs = accept-polygon coarse (c .args .vertices .now) (c .args .known) (c .pre)
+accepts-requires c κs =
+    polygon-first coarse (c .args .vertices .now)
+    (accept-polygon coarse (c .args .vertices .now) (c .args .known) (c .pre .0))
 
 same-direction-requires : tie.Need-same-direction-requires
 same-direction-requires c κs =
     let s = c .before .before in
-    (accept-passed (s .pre) .known, accept-passed (passed _ (taken (c .before) (c .if1 .taken))) .known)
+    (accept-passed (s .pre .0) .known, accept-passed (passed _ (taken (c .before) (c .if1 .taken))) .known)
 
 returns : tie.Need-returns
 unfolding isSecond
 returns c = rw (taken (c .before .before .before) (c .before .before .if1 .taken), same (c .before) (c .if2 .taken))
 
-judge-query-requires : tie.Need-judge-query-requires
-judge-query-requires c κs = search needs
+judge-boxed-requires : tie.Need-judge-boxed-requires
+judge-boxed-requires c κs = c .before .before .before .before .pre
 
 number-requires : tie.Need-number-requires
 number-requires c κs = search needs
 
 returns-2 : tie.Need-returns-2
-unfolding isSecond
+unfolding isSecond judgementOf
 returns-2 c =
     let e = c .before .before in
     rw (taken (e .before .before .before) (e .before .before .if1 .taken), same (e .before) (e .if2 .left))
-    (ap (λ (n : ℕ). eqb n 1) (c .number .ensures ∙ ap numberOf (c .before .judge-query .ensures)))
+    (ap (λ (n : ℕ). eqb n 1) (c .number .ensures ∙ ap (λ j. numberOf (j .answer)) (c .before .judge-boxed .ensures)))
 
 returns-3 : tie.Need-returns-3
 unfolding isSecond
@@ -59,7 +62,7 @@ is-second-spec =
     accepts-requires
     same-direction-requires
     returns
-    judge-query-requires
+    judge-boxed-requires
     number-requires
     returns-2
     returns-3)

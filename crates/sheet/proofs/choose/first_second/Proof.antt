@@ -1,86 +1,33 @@
--- `choose::first_second` meets its contract: no candidate before i passed. Assumes nothing.
-use mathlib.Core.Path.{_≡_, sym}
-use mathlib.Core.Bool.{Bool}
-use mathlib.Core.List.{List}
-use Prim.Native.Nat.{ℕ, _-_, _≤_}
-use native.Mathlib.Omega.{arith}
+-- `choose::first_second` meets its contract. Assumes nothing.
 use borrow.Author.Needs.{needs}
-use lib.IntN.{ℤ}
-use Rattle.sphere.specs.declared.point.Point.{Point}
 use Rattle.sphere.specs.Point.{coarse}
-use Rattle.polygon.specs.Vertices.{vertexAt}
-use Rattle.polygon.specs.Pair.{isSecond}
-use Rattle.polygon.proofs.Laws.Search.{Searched, searched-start, searched-step, searched-hit, searched-end, tested}
-use Rattle.sheet.specs.Choose.{candidateCount, candidatesOf}
-use Rattle.sheet.proofs.Laws.Candidates.{chosen-accepted}
+use Rattle.polygon.specs.Accepted.{Accepted}
+use Rattle.polygon.proofs.Laws.Checks.{accept-passed}
+use Rattle.judging.proofs.Laws.Stored.{stored-boxed}
 use Rattle.sheet.proofs.choose.first_second.Statement.{statement}
 use Rattle.sheet.proofs.choose.first_second.Tie as tie
 
-abbrev passes : List ℤ → Point → List ℕ → ℕ → Bool
-passes vs X candidates i = isSecond coarse vs X (vertexAt (candidatesOf candidates) i)
+accepted : (c : tie.Start) → Accepted coarse (c .args .vertices .now) (c .args .known)
+accepted c = accept-passed (c .pre)
 
-abbrev Inv-loop : tie.InvT-loop
-Inv-loop vertices known candidates n i₀ i =
-    (i ≤ n) × Searched (passes vertices known candidates) (candidateCount candidates) i
+slice-aggregate-fill : tie.Need-slice-aggregate-fill
+slice-aggregate-fill c = search needs
 
-abbrev μ-loop : tie.MeasureT-loop
-μ-loop vertices known candidates n i₀ i = n - i
+fill-requires : tie.Need-fill-requires
+fill-requires c κs = let a = accepted (c .before .before) in (a .listed, a .gridded, search needs)
 
-loop-holds : tie.Need-loop-holds Inv-loop μ-loop
-loop-holds c = (omega arith, searched-start _ _)
+slice-aggregate-earliest : tie.Need-slice-aggregate-earliest
+slice-aggregate-earliest c = search needs
 
-candidate-at-requires : tie.Need-candidate-at-requires Inv-loop μ-loop
-candidate-at-requires c κs = search needs
+earliest-requires : tie.Need-earliest-requires
+earliest-requires c κs =
+    let f = c .before .before in
+    let s = f .before .before .before in
+    (s .pre, rw (f .fill .ensures) (stored-boxed (s .args .vertices .now) _ (accepted s .listed) (search needs)))
 
-is-second-requires : tie.Need-is-second-requires Inv-loop μ-loop
-is-second-requires c κs = search needs
-
--- The candidate that was tested is candidate i.
-outcome : (c : tie.After-is-second Inv-loop μ-loop) {t : Bool} → c .is-second .result ≡ t →
-    let l = c .before .before .before in
-    let s = l .before .before .args in
-    passes (s .vertices .now) (s .known) (s .candidates .now) (l .loop .i) ≡ t
-outcome c e =
-    let s = c .before .before .before .before .before .args in
-    tested (isSecond coarse (s .vertices .now) (s .known)) (c .is-second .ensures) (c .before .candidate-at .ensures) e
-
-returns : tie.Need-returns Inv-loop μ-loop
-returns c =
-    let l = c .before .before .before in
-    let start = l .before .before .before in
-    let s = start .args in
-    sym (chosen-accepted (s .vertices .now) (s .known) (s .candidates .now) (start .pre)
-    (searched-hit (l .loop-test .taken) (outcome (c .before) (c .if1 .taken)) (l .before .loop .inv .1)))
-
-add-i : tie.Need-add-i Inv-loop μ-loop
-add-i c = search needs
-
-loop-less : tie.Need-loop-less Inv-loop μ-loop
-loop-less c = search needs
-
-loop-again : tie.Need-loop-again Inv-loop μ-loop
-loop-again c =
-    let l = c .before .before .before in
-    (omega arith, searched-step (l .loop-test .taken) (outcome (c .before) (c .if1 .left)) (l .before .loop .inv .1))
-
-returns-2 : tie.Need-returns-2 Inv-loop μ-loop
-returns-2 c =
-    let start = c .before .before .before in
-    let s = start .args in
-    sym (chosen-accepted (s .vertices .now) (s .known) (s .candidates .now) (start .pre)
-    (searched-end (c .loop-test .left) (c .before .loop .inv .1)))
+returns : tie.Need-returns
+returns c = search needs
 
 pub first-second-spec : {M : Type 1} → statement M
 first-second-spec =
-    tie.close
-    (tie.spec
-    Inv-loop
-    μ-loop
-    loop-holds
-    candidate-at-requires
-    is-second-requires
-    returns
-    add-i
-    loop-less
-    loop-again
-    returns-2)
+    tie.close (tie.spec slice-aggregate-fill fill-requires slice-aggregate-earliest earliest-requires returns)

@@ -59,7 +59,7 @@ mul-size : tie.Need-mul-size
 mul-size c = search needs
 
 slice-reshare-prefix-carried-check : tie.Need-slice-reshare-prefix-carried-check
-slice-reshare-prefix-carried-check c = search needs
+slice-reshare-prefix-carried-check c = room c
 
 slice-aggregate-carried-check : tie.Need-slice-aggregate-carried-check
 slice-aggregate-carried-check c = sym (length-take-le _ _ (room (c .before)))

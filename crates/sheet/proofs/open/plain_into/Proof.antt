@@ -1,17 +1,18 @@
 -- `open::plain_into` meets its contract. Assumes nothing.
 use mathlib.Core.Path.{_≡_, sym, ap, ap₂, _∙_}
 use mathlib.Core.List.{List, _++_}
-use Prim.Native.Nat.{ℕ, _*_}
+use Prim.Native.Nat.{ℕ, _*_, _≤_}
 use native.Mathlib.Omega.{arith}
 use borrow.Author.Needs.{needs}
 use lib.IntN.{ℤ}
-use lib.ListN.{take, drop}
+use lib.ListN.{length, take, drop}
 use lib.Seq.{length-take-le}
 use Rattle.sphere.specs.Point.{coarse}
 use Rattle.polygon.specs.declared.answer.Check.the-variants.{Passed}
 use Rattle.polygon.specs.Checks.{acceptCheck}
 use Rattle.sheet.specs.Fields.{fiveFields, fieldsCheck}
 use Rattle.sheet.specs.Sheet.{vertexCountOf, verticesOf, plainCheck, decodedOf}
+use Rattle.sheet.proofs.Laws.Fields.{passed-spans}
 use Rattle.sheet.proofs.Laws.Reads.{fields-five, plain-unsound, plain-polygon, decoded-by, loaded-row}
 use Rattle.sheet.proofs.open.plain_into.Statement.{statement}
 use Rattle.sheet.proofs.open.plain_into.Tie as tie
@@ -22,6 +23,15 @@ passed c = sym (c .before .before .fields-check .ensures) ∙ c .enum-told .give
 
 sound : (c : tie.After-enum-told) → fiveFields (c .before .before .before .before .args .b .now) ≡ Passed
 sound c = fields-five (c .before .before .before .before .args .b .now) (passed c)
+
+-- There is room for the vertices.
+room : (c : tie.After-vertex-count) →
+    c .vertex-count .result * 3 ≤ length (c .before .before .before .before .before .args .scratch .now)
+room c =
+    let s = c .before .before .before .before .before in
+    let n = c .vertex-count .ensures in
+    let spans = passed-spans (s .args .b .now) (sound (c .before)) in
+    omega (arith, n .0, n .1, spans .second-at, spans .ends, s .pre)
 
 -- What lies in `scratch` after decoding.
 decoded :
@@ -78,18 +88,21 @@ vertex-count-requires c κs = sound c
 decode-vertices-requires : tie.Need-decode-vertices-requires
 decode-vertices-requires c κs =
     let n = c .before .vertex-count .ensures in
-    (sound (c .before .before), (n .0, omega arith))
+    (sound (c .before .before), (n .0, room (c .before)))
 
 mul-size : tie.Need-mul-size
 mul-size c = search needs
 
 slice-reshare-prefix-accept-check : tie.Need-slice-reshare-prefix-accept-check
-slice-reshare-prefix-accept-check c = search needs
+slice-reshare-prefix-accept-check c =
+    let k = c .before .decode-vertices .kept .1 .1 .0 in
+    let r = room (c .before .before .before) in
+    omega arith
 
 slice-aggregate-accept-check : tie.Need-slice-aggregate-accept-check
 slice-aggregate-accept-check c =
-    let n = c .before .before .before .before .vertex-count .ensures in
     let k = c .before .before .decode-vertices .kept .1 .1 .0 in
+    let r = room (c .before .before .before .before) in
     sym (length-take-le _ (c .before .before .decode-vertices .last .1 .1 .0) (omega arith))
 
 known-point-requires : tie.Need-known-point-requires
