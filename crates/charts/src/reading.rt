@@ -11,10 +11,10 @@ use crate::lines;
 use sheet::read;
 use sheet::read::Sheet;
 
-// Document 01's octant: zone 7, UTF-8, the name 0x41. A line for each field, and for each vertex of the last one; the
-// last byte is one too many.
-pub(crate) fn octant_sheet() -> [u8; 70]
-    ensures { λ r. ⌜ 70 ≡ length r ⌝ }
+// Document 01's octant: zone 7, UTF-8, the name 0x41. A line for each field, and for each vertex of the fifth. Its 69
+// bytes are followed by the field of a second point (document 02, P4), (1, 1, 2), and by a byte too many.
+pub(crate) fn octant_sheet() -> [u8; 85]
+    ensures { λ r. ⌜ 85 ≡ length r ⌝ }
 {
     *b"\x01\x00\x04\x00\x00\x00\x07\
        \x02\x00\x01\x01\
@@ -24,13 +24,14 @@ pub(crate) fn octant_sheet() -> [u8; 70]
        \x00\x00\x00\x01\x00\x00\x00\x00\x00\x00\x00\x00\
        \x00\x00\x00\x00\x00\x00\x00\x01\x00\x00\x00\x00\
        \x00\x00\x00\x00\x00\x00\x00\x00\x00\x00\x00\x01\
-       \x00"
+       \x06\x00\x0c\x00\x00\x00\x01\x00\x00\x00\x01\x00\x00\x00\x02\
+       \x06"
 }
 
 // The sheet with one byte changed.
-fn changed(sheet: [u8; 70], at: usize, byte: u8) -> [u8; 70]
-    requires { ⌜ (at < 70) × (70 ≡ length sheet) ⌝ }
-    ensures { λ r. ⌜ 70 ≡ length r ⌝ }
+pub(crate) fn changed(sheet: [u8; 85], at: usize, byte: u8) -> [u8; 85]
+    requires { ⌜ (at < 85) × (85 ≡ length sheet) ⌝ }
+    ensures { λ r. ⌜ 85 ≡ length r ⌝ }
 {
     let mut out = sheet;
     out[at] = byte;
@@ -85,13 +86,13 @@ pub(crate) fn print_parts(label: &[u8], parts: &[u8], name: &[u8], bytes: &[u8],
 }
 
 fn print_changed(label: &[u8], at: usize, byte: u8)
-    requires { ⌜ at < 70 ⌝ }
+    requires { ⌜ at < 85 ⌝ }
 {
     print_read(label, &changed(octant_sheet(), at, byte), 69)
 }
 
 fn print_cut(label: &[u8], n: usize)
-    requires { ⌜ n ≤ 70 ⌝ }
+    requires { ⌜ n ≤ 85 ⌝ }
 {
     print_read(label, &octant_sheet(), n)
 }
@@ -118,7 +119,7 @@ fn ends() {
         &octant_sheet(),
         68,
     );
-    print_cut(b"rest_70", 70);
+    print_read(b"rest_70", &changed(octant_sheet(), 69, 0), 70);
 }
 
 fn tags() {
@@ -163,7 +164,8 @@ fn pairs() {
     );
     print_read(b"field_22_20", &changed(octant_sheet(), 2, 5), 5);
     print_read(b"field_23_20", &changed(octant_sheet(), 10, 9), 12);
-    print_read(b"field_24_12", &changed(octant_sheet(), 36, 0), 70);
+    let longer = changed(octant_sheet(), 69, 0);
+    print_read(b"field_24_12", &changed(longer, 36, 0), 70);
 }
 
 // Vertex 0 is (2^20 + 1, 0, 0) and (0, 0, 0); vertex 1 is (2, 0, 0) and (-2^20, 0, 0), as 255, 240, 0, 0; the known

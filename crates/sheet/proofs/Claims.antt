@@ -15,7 +15,7 @@ use Rattle.polygon.specs.declared.answer.Check.{Check}
 use Rattle.polygon.specs.declared.answer.Check.the-variants.{Passed, Failed}
 use Rattle.polygon.specs.Answer.{numberOf, answerAfter}
 use Rattle.polygon.specs.Pair.{optionalCheck}
-use Rattle.polygon.proofs.Laws.Checks.{here-passed, then-passed}
+use Rattle.polygon.proofs.Laws.Checks.{here-passed, then-passed, accepted-some}
 use Rattle.polygon.proofs.Laws.Pair.{second-passed, called-judged}
 use Rattle.sheet.specs.Fields.{isAllowed, isCharset, fieldCheck, charsetStart, nameStart, secondStart, hasSecond}
 use Rattle.sheet.specs.Fields.{sheetEnd, charsetCheck, fiveFields, sheetFields, restCheck, fieldsCheck}
@@ -26,7 +26,6 @@ use Rattle.sheet.specs.Claims.{WrittenReadsBack, ReadWritesBack, ReadNev
 use Rattle.sheet.proofs.Laws.Fields.{passed-field, passed-fields, passed-spans, five-passed, end-plain}
 use Rattle.sheet.proofs.Laws.Fields.{end-carried, end-within}
 use Rattle.sheet.proofs.Laws.Stores.{sheetBytes-length}
-use Rattle.sheet.proofs.Laws.Accepted.{accepted-some}
 use Rattle.sheet.proofs.Laws.Second.{size-kept, second-kept}
 use Rattle.sheet.proofs.Laws.Kept.{nameOf-length, verticesOf-length, sheet-kept}
 use Rattle.sheet.proofs.Laws.Written.{reads-as}

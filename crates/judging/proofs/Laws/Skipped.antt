@@ -1,6 +1,6 @@
--- Runs that are skipped and runs that are not. Defined: AreSkipped. Proved, in order: box-holds (the ends of a run's edges are in its box),
--- box-within; side-of, skipped-beside, skipped-not-crossed, skipped-not-held; skipped-runs, looked-runs (what a walk over
--- some runs says); no-run, one-run, more-runs. Assumes nothing.
+-- Runs that are skipped and runs that are not. Defined: AreSkipped. Proved, in order: box-holds (the ends of a run's
+-- edges are in its box), box-within; side-of, skipped-beside, skipped-not-crossed, skipped-not-held; skipped-runs,
+-- looked-runs (what a walk over some runs says); no-run, one-run, more-runs. Assumes nothing.
 use mathlib.Core.Path.{_≡_, refl, sym, _∙_, subst}
 use mathlib.Core.Logic.{⊎-elim}
 use mathlib.Core.Bool.{Bool, true, false}
@@ -11,6 +11,7 @@ use native.Mathlib.Omega.{arith}
 use borrow.Author.Tests.{ltb-true, ltb-false, lt-ltb}
 use lib.Dec.{T, ltb}
 use lib.IntN.{ℤ, pos}
+use lib.Signed.{ltZ}
 use Rattle.integers.specs.Sign.{Sign, negative, nought, positive, signOf, isPositive, isNegative}
 use Rattle.integers.proofs.Sign.{lt, gt, is-allows}
 use Rattle.sphere.specs.declared.point.Point.{Point}
@@ -33,7 +34,7 @@ use Rattle.judging.specs.Walk.{tallyFrom, isLooked, reach, lookedFrom, w
 use Rattle.judging.specs.Claims.{Below, InBox, InRun}
 use Rattle.judging.proofs.Laws.Extremes.{below-refl, below-trans, least-left, least-right, greatest-left}
 use Rattle.judging.proofs.Laws.Extremes.{greatest-right, extreme-first, extreme-each, extreme-keeps}
-use Rattle.judging.proofs.Laws.Extremes.{least-within, greatest-within}
+use Rattle.judging.proofs.Laws.Extremes.{by-within}
 use Rattle.judging.proofs.Laws.Apart.{apart-one-side}
 use Rattle.judging.proofs.Laws.Runs.{run-within, run-known, runStart, Between, between}
 use Rattle.judging.proofs.Laws.Told.{reach-within}
@@ -101,8 +102,8 @@ module _ {limit : ℕ} {vs : List ℤ} (g : Gridded limit vs) (r : ℕ) (h : r <
   pub box-within : Within limit (boxOf vs r .low) × Within limit (boxOf vs r .high)
   unfolding boxOf
   box-within = (
-    extreme-keeps (Within limit) leastOf least-within vs (r * 32) _ _ first-within ends-within,
-    extreme-keeps (Within limit) greatestOf greatest-within vs (r * 32) _ _ first-within ends-within,
+    extreme-keeps (Within limit) leastOf (by-within (λ a b. ltZ b a)) vs (r * 32) _ _ first-within ends-within,
+    extreme-keeps (Within limit) greatestOf (by-within ltZ) vs (r * 32) _ _ first-within ends-within,
   )
 
 -- ---- a skipped run

@@ -1,8 +1,8 @@
--- What a check that passed establishes.
--- Proved, in order: failed-not-passed, passed, here-passed, fails-at-passed, then-passed; list-passed, beyond-passed,
--- reference-passed, query-passed, circle-passed; polygon-first, polygon-passed, accept-passed; Reference (all that lines 10 to 16 say
--- of a reference point), reference-accepted, reference→query; circle→shape (lines 12 to 14 hold where line 16 does),
--- accept-short. The checks 12 to 14 establish facts that no proof rests on. Assumes nothing.
+-- What a check that passed establishes. Proved, in order: failed-not-passed, passed, here-passed, fails-at-passed,
+-- then-passed; list-passed, beyond-passed, reference-passed, query-passed, circle-passed; polygon-first,
+-- polygon-passed, accept-passed; Reference (all that lines 10 to 16 say of a reference point), reference-accepted,
+-- accepted-some, reference→query; circle→shape (lines 12 to 14 hold where line 16 does), accept-short. The checks 12 to
+-- 14 establish facts that no proof rests on. Assumes nothing.
 use mathlib.Core.Path.{_≡_, refl, sym, _∙_, ap}
 use mathlib.Core.Bool.{Bool, true, false, not, _&&_, true≢false}
 use mathlib.Core.List.{List}
@@ -17,7 +17,7 @@ use Rattle.sphere.specs.declared.point.Point.{Point}
 use Rattle.sphere.specs.Point.{Within, isNull, isBeyond, isOffGrid}
 use Rattle.sphere.specs.Orientation.{orientationOf}
 use Rattle.sphere.specs.Direction.{isSameDirection, isAntipodal}
-use Rattle.sphere.proofs.Laws.Grid.{beyond→within, off-grid→within}
+use Rattle.sphere.proofs.Laws.Grid.{beyond→within, off-grid→within, or-right}
 use Rattle.sphere.proofs.Laws.Orientation.{off→apart, off→some}
 use Rattle.polygon.specs.declared.answer.Found.{Found}
 use Rattle.polygon.specs.declared.answer.Found.the-variants.{Nothing, At}
@@ -135,6 +135,13 @@ module _ (limit : ℕ) (vs : List ℤ) (X : Point) (e : acceptCheck limit vs X �
     accepted = accept-passed e;
     off-circle = circle-passed vs X (then-passed (referenceCheck limit X) (circleCheck vs X) after-polygon .1);
   }
+
+  -- an accepted point is not all zero
+  pub accepted-some : isNull X ≡ false
+  unfolding referenceCheck isOffGrid
+  accepted-some =
+      let here = then-passed (referenceCheck limit X) (circleCheck vs X) after-polygon .0 in
+      or-right (isBeyond limit X) (isNull X) (here-passed 15 0 (isOffGrid limit X) here)
 
   -- lines 15 and 17 are one test
   pub reference→query : queryCheck limit X ≡ Passed

@@ -1,6 +1,6 @@
 -- What an accepted list and known point are known to be: the checks 10, 11 and 15, in numbers.
 -- Proved, in order: whole-passed, accepted-list, accepted-known, accepted-number; fits-word, within-word (such numbers
--- fit 32 bits); null-none, accepted-some; optional-check, optional-small (a second point, or none). Assumes nothing.
+-- fit 32 bits); null-none; optional-check, optional-small (a second point, or none). Assumes nothing.
 use mathlib.Core.Path.{_≡_, refl, sym}
 use mathlib.Core.Bool.{Bool, true, false, true≢false}
 use mathlib.Core.List.{List}
@@ -12,11 +12,10 @@ use lib.IntN.{ℤ, pos, negsuc}
 use lib.ListN.{length, getD, List·getD-eq-default}
 use Rattle.integers.specs.Sign.{signOf, isZero}
 use Rattle.sphere.specs.declared.point.Point.{Point}
-use Rattle.sphere.specs.Point.{coarse, Fits, Within, isBeyond, isNull, isOffGrid}
-use Rattle.sphere.proofs.Laws.Grid.{or-right}
+use Rattle.sphere.specs.Point.{coarse, Fits, Within, isNull}
 use Rattle.polygon.specs.declared.answer.Check.the-variants.{Passed}
 use Rattle.polygon.specs.Vertices.{vertexCount, vertexAt}
-use Rattle.polygon.specs.Checks.{listCheck, polygonCheck, referenceCheck, circleCheck, acceptCheck}
+use Rattle.polygon.specs.Checks.{listCheck, polygonCheck, acceptCheck}
 use Rattle.polygon.specs.Pair.{secondCheck, optionalCheck}
 use Rattle.polygon.proofs.Laws.Checks.{here-passed, then-passed, accept-passed}
 use Rattle.polygon.proofs.Laws.Pair.{optional-second}
@@ -96,13 +95,6 @@ null-none p e =
       y = zero-is (p .y) (two .0) i;
       z = zero-is (p .z) (two .1) i;
     }
-
-pub accepted-some : (limit : ℕ) (vs : List ℤ) (Y : Point) → acceptCheck limit vs Y ≡ Passed → isNull Y ≡ false
-unfolding acceptCheck referenceCheck isOffGrid
-accepted-some limit vs Y e =
-    let after = then-passed (polygonCheck limit vs) _ e .1 in
-    let here = then-passed (referenceCheck limit Y) (circleCheck vs Y) after .0 in
-    or-right (isBeyond limit Y) (isNull Y) (here-passed 15 0 (isOffGrid limit Y) here)
 
 nought : Fits 2147483647 (pos 0)
 nought = record { within = zero-le }
