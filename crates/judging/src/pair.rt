@@ -1,7 +1,7 @@
 // A second reference point (document 02, P4: a second known point), for the query that is antipodal to the first.
 // Here, in order: is_second, second_check (19), pair_check (10 to 16, 19), optional_check; judge_called_boxed,
-// judge_called, judge_pair; earliest, choose_second. A point that is all zero is no second point. The polygon is checked once: of a
-// candidate only lines 15 and 16 are left to check. Assumes nothing.
+// judge_called, judge_pair; earliest, choose_second. A point that is all zero is no second point. The polygon is
+// checked once: of a candidate only lines 15 and 16 are left to check. Assumes nothing.
 ghost use mathlib.Core.Path.{_≡_};
 ghost use Rattle.sphere.specs.Point.{coarse};
 ghost use Rattle.polygon.specs.declared.answer.Check.the-variants.{Passed};
