@@ -45,27 +45,24 @@ module _ (vs : List ℤ) (r : ℕ) where
   abbrev from : ℕ
   from = r * 32
 
-  abbrev size : ℕ
-  size = runEnd (vertexCount vs) r - r * 32
-
   first-in : InBox (boxOf vs r) (vertexAt vs (r * 32))
   unfolding boxOf
   first-in = record {
-    above = extreme-first Below leastOf below-refl below-trans least-left least-right vs from size (vertexAt vs from);
+    above = extreme-first Below leastOf below-refl below-trans least-left least-right vs from _ (vertexAt vs from);
     below =
         extreme-first (λ p q. Below q p) greatestOf below-refl (λ p q s h k. below-trans s q p k h) greatest-left
-        greatest-right vs from size (vertexAt vs from);
+        greatest-right vs from _ (vertexAt vs from);
   }
 
   end-in : (j : ℕ) → r * 32 ≤ j → j < runEnd (vertexCount vs) r → InBox (boxOf vs r) (endOf vs j)
   unfolding boxOf
   end-in j h l = record {
     above =
-        extreme-each Below leastOf below-refl below-trans least-left least-right vs from size (vertexAt vs from) j h
+        extreme-each Below leastOf below-refl below-trans least-left least-right vs from _ (vertexAt vs from) j h
         (omega arith);
     below =
         extreme-each (λ p q. Below q p) greatestOf below-refl (λ p q s h k. below-trans s q p k h) greatest-left
-        greatest-right vs from size (vertexAt vs from) j h (omega arith);
+        greatest-right vs from _ (vertexAt vs from) j h (omega arith);
   }
 
 -- The end of an edge is the start of the next one.
