@@ -6,7 +6,7 @@ ghost use mathlib.Core.Path.{_≡_};
 ghost use Prim.Native.Nat.{_+_, _*_, _≤_, _<_};
 ghost use lib.ListN.{length};
 ghost use lib.Seq.{sets};
-ghost use Rattle.sphere.specs.Point.{coarse};
+ghost use Rattle.sphere.specs.Point.{limitOf};
 ghost use Rattle.polygon.specs.declared.answer.Check.the-variants.{Passed};
 ghost use Rattle.polygon.specs.Answer.{placeOf};
 ghost use Rattle.polygon.specs.Pair.{optionalCheck};
@@ -21,6 +21,7 @@ use polygon::answer;
 use polygon::answer::Answer;
 use polygon::answer::Check;
 use polygon::checks::accept_check;
+use sphere::point::Grid;
 use sphere::point::Point;
 
 // Whole queries, and room for a result for each of them.
@@ -38,14 +39,14 @@ pub fn size_check(queries: &[u8], room: usize) -> Check
 }
 
 // All that is checked once for a feed, with `room` bytes for its results.
-pub fn feed_check(vertices: &[i32], known: Point, queries: &[u8], room: usize) -> Check
-    ensures { λ r. ⌜ r ≡ feedCheck coarse (now (vertices .entry)) known (now (queries .entry)) room ⌝ }
+pub fn feed_check(grid: Grid, vertices: &[i32], known: Point, queries: &[u8], room: usize) -> Check
+    ensures { λ r. ⌜ r ≡ feedCheck (limitOf grid) (now (vertices .entry)) known (now (queries .entry)) room ⌝ }
 {
     match size_check(queries, room) {
         Check::Passed => {}
         Check::Failed(number, place) => return Check::Failed(number, place),
     }
-    accept_check(vertices, known)
+    accept_check(grid, vertices, known)
 }
 
 // Twelve bytes: number, place, count.
@@ -60,6 +61,7 @@ fn store_result(results: &mut [u8], at: usize, answer: Answer)
 
 // Query i and its result. A query that is refused spoils no other.
 fn judge_one(
+    grid: Grid,
     vertices: &[i32],
     boxes: &[i32],
     known: Point,
@@ -68,20 +70,29 @@ fn judge_one(
     i: usize,
     results: &mut [u8],
 )
-    requires { ⌜ (optionalCheck coarse (now vertices) known second ≡ Passed) × Boxed (now vertices) (now boxes) ⌝ }
+    requires { ⌜ (optionalCheck (limitOf grid) (now vertices) known second ≡ Passed)
+        × Boxed (now vertices) (now boxes) ⌝ }
     requires { ⌜ i < queryCount (now queries) ⌝ }
     requires { ⌜ neededFor (now queries) ≤ length (now results) ⌝ }
     ensures { λ _. ⌜ now (results .exit) ≡ sets (now (results .entry)) (i * 12)
-        (resultOf coarse (now (vertices .entry)) known second (now (queries .entry)) i) ⌝ }
+        (resultOf (limitOf grid) (now (vertices .entry)) known second (now (queries .entry)) i) ⌝ }
 {
     let at = i * 12;
-    let judgement = judge_called_boxed(vertices, boxes, known, second, read::point_at(queries, at));
+    let judgement = judge_called_boxed(
+        grid,
+        vertices,
+        boxes,
+        known,
+        second,
+        read::point_at(queries, at),
+    );
     let answer = judgement.answer;
     store_result(results, at, answer)
 }
 
 // Every query of a feed, by the boxes beside the polygon.
 fn judge_each(
+    grid: Grid,
     vertices: &[i32],
     boxes: &[i32],
     known: Point,
@@ -89,41 +100,55 @@ fn judge_each(
     queries: &[u8],
     results: &mut [u8],
 )
-    requires { ⌜ (optionalCheck coarse (now vertices) known second ≡ Passed) × Boxed (now vertices) (now boxes) ⌝ }
+    requires { ⌜ (optionalCheck (limitOf grid) (now vertices) known second ≡ Passed)
+        × Boxed (now vertices) (now boxes) ⌝ }
     requires { ⌜ neededFor (now queries) ≤ length (now results) ⌝ }
     ensures { λ _. ⌜ now (results .exit) ≡ sets (now (results .entry)) 0
-        (feedBytes coarse (now (vertices .entry)) known second (now (queries .entry))) ⌝ }
+        (feedBytes (limitOf grid) (now (vertices .entry)) known second (now (queries .entry))) ⌝ }
 {
     let n = queries.len() / 12;
     for i in 0..n {
-        judge_one(vertices, boxes, known, second, queries, i, results);
+        judge_one(grid, vertices, boxes, known, second, queries, i, results);
     }
 }
 
 // Every query of a feed whose checks have passed. The boxes are built once.
-pub fn judge_all(vertices: &[i32], known: Point, second: Point, queries: &[u8], results: &mut [u8])
-    requires { ⌜ optionalCheck coarse (now vertices) known second ≡ Passed ⌝ }
+pub fn judge_all(
+    grid: Grid,
+    vertices: &[i32],
+    known: Point,
+    second: Point,
+    queries: &[u8],
+    results: &mut [u8],
+)
+    requires { ⌜ optionalCheck (limitOf grid) (now vertices) known second ≡ Passed ⌝ }
     requires { ⌜ neededFor (now queries) ≤ length (now results) ⌝ }
     ensures { λ _. ⌜ now (results .exit) ≡ sets (now (results .entry)) 0
-        (feedBytes coarse (now (vertices .entry)) known second (now (queries .entry))) ⌝ }
+        (feedBytes (limitOf grid) (now (vertices .entry)) known second (now (queries .entry))) ⌝ }
 {
     let mut boxes = [0i32; 768];
     boxes::fill(vertices, &mut boxes);
-    judge_each(vertices, &boxes, known, second, queries, results)
+    judge_each(grid, vertices, &boxes, known, second, queries, results)
 }
 
 // The feed from one known point: any numbers and bytes. A refusal changes no byte of the results.
-pub fn judge_feed(vertices: &[i32], known: Point, queries: &[u8], results: &mut [u8]) -> Answer
-    ensures { λ r. ⌜ r ≡ feedOf coarse (now (vertices .entry)) known (now (queries .entry))
+pub fn judge_feed(
+    grid: Grid,
+    vertices: &[i32],
+    known: Point,
+    queries: &[u8],
+    results: &mut [u8],
+) -> Answer
+    ensures { λ r. ⌜ r ≡ feedOf (limitOf grid) (now (vertices .entry)) known (now (queries .entry))
         (length (now (results .entry))) ⌝ }
-    ensures { λ _. ⌜ now (results .exit) ≡ fedTo coarse (now (vertices .entry)) known (now (queries .entry))
+    ensures { λ _. ⌜ now (results .exit) ≡ fedTo (limitOf grid) (now (vertices .entry)) known (now (queries .entry))
         (now (results .entry)) ⌝ }
 {
-    match feed_check(vertices, known, queries, results.len()) {
+    match feed_check(grid, vertices, known, queries, results.len()) {
         Check::Passed => {}
         Check::Failed(number, place) => return Answer::Refused(number, place),
     }
     let none = Point { x: 0, y: 0, z: 0 };
-    judge_all(vertices, known, none, queries, results);
+    judge_all(grid, vertices, known, none, queries, results);
     Answer::Done(0)
 }

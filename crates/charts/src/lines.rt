@@ -5,6 +5,7 @@ use judging::judge;
 use libc::STDOUT_FILENO;
 use polygon::answer;
 use polygon::answer::Answer;
+use sphere::point::Grid;
 use sphere::point::Point;
 
 pub(crate) fn print_numbers(label: &[u8], first: u64, second: u64, third: u64) {
@@ -36,7 +37,7 @@ pub(crate) fn print_same(label: &[u8], is_same: bool) {
 
 // What is said of a list, a known point and a query.
 pub(crate) fn judge(label: &[u8], vertices: &[i32], known: Point, query: Point) {
-    print_answer(label, judge::judge(vertices, known, query))
+    print_answer(label, judge::judge(Grid::Coarse, vertices, known, query))
 }
 
 // The same, where both points are the octant's known point.

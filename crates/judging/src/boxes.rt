@@ -1,17 +1,20 @@
 // Boxes beside the polygon: document 02's P2.
 // Here, in order: Bounds; lesser, greater, least, greatest, run_count, run_end, run_box (one run's box); put_number,
-// put_corner, put_box, box_at, fill (all of them, in one array of numbers); end_for, corner, is_apart. Assumes nothing.
+// put_corner, put_box, box_at, fill (all of them, in one array of numbers); end_for, corner, is_apart, is_run_apart.
+// Assumes nothing.
 ghost use mathlib.Core.Path.{_≡_};
 ghost use Prim.Native.Nat.{_+_, _*_, _≤_, _<_};
 ghost use lib.ListN.{length, set};
-ghost use Rattle.sphere.specs.Point.{coarse, minors, Fits, Within};
+ghost use Rattle.sphere.specs.Point.{fine, limitOf, Fits, Within};
+ghost use Rattle.sphere.specs.Plane.{Sound};
 ghost use Rattle.polygon.specs.Accepted.{Listed, Gridded};
 ghost use Rattle.polygon.specs.Vertices.{vertexCount};
 ghost use Rattle.judging.specs.Boxes.{runCount, runEnd, lesserOf, greaterOf, leastOf, greatestOf, boxOf};
 ghost use Rattle.judging.specs.Boxes.{boxAt, pointStored, boxStored, boxesStored, endFor, cornerFor, isApart};
 use polygon::vertices::end_of;
 use polygon::vertices::vertex_at;
-use sphere::orientation::dot;
+use sphere::plane::Plane;
+use sphere::plane::exact_side_of;
 use sphere::point::Point;
 
 // The least and the greatest coordinates over some points. Document 02: a box.
@@ -98,7 +101,7 @@ fn run_box(vertices: &[i32], r: usize) -> Bounds
 }
 
 fn put_number(boxes: &mut [i32], at: usize, n: i64)
-    requires { ⌜ (at < length (now boxes)) × Fits coarse n ⌝ }
+    requires { ⌜ (at < length (now boxes)) × Fits fine n ⌝ }
     ensures { λ _. ⌜ now (boxes .exit) ≡ set (now (boxes .entry)) at n ⌝ }
 {
     boxes[at] = n as i32;
@@ -106,7 +109,7 @@ fn put_number(boxes: &mut [i32], at: usize, n: i64)
 
 // A corner of a box: three numbers of the array.
 fn put_corner(boxes: &mut [i32], at: usize, p: Point)
-    requires { ⌜ (at + 3 ≤ length (now boxes)) × Within coarse p ⌝ }
+    requires { ⌜ (at + 3 ≤ length (now boxes)) × Within fine p ⌝ }
     ensures { λ _. ⌜ now (boxes .exit) ≡ pointStored (now (boxes .entry)) at p ⌝ }
 {
     put_number(boxes, at, p.x);
@@ -116,7 +119,7 @@ fn put_corner(boxes: &mut [i32], at: usize, p: Point)
 
 // The box of run r becomes box r of the array.
 fn put_box(vertices: &[i32], boxes: &mut [i32], r: usize)
-    requires { ⌜ Listed (now vertices) × Gridded coarse (now vertices) ⌝ }
+    requires { ⌜ Listed (now vertices) × Gridded fine (now vertices) ⌝ }
     requires { ⌜ (r < runCount (vertexCount (now vertices))) × (r * 6 + 6 ≤ length (now boxes)) ⌝ }
     ensures { λ _. ⌜ now (boxes .exit) ≡ boxStored (now (boxes .entry)) r (boxOf (now (vertices .entry)) r) ⌝ }
 {
@@ -125,7 +128,7 @@ fn put_box(vertices: &[i32], boxes: &mut [i32], r: usize)
     put_corner(boxes, r * 6 + 3, b.high)
 }
 
-pub fn box_at(boxes: &[i32], r: usize) -> Bounds
+fn box_at(boxes: &[i32], r: usize) -> Bounds
     requires { ⌜ r * 6 + 6 ≤ length (now boxes) ⌝ }
     ensures { λ b. ⌜ b ≡ boxAt (now (boxes .entry)) r ⌝ }
 {
@@ -137,7 +140,7 @@ pub fn box_at(boxes: &[i32], r: usize) -> Bounds
 
 // All boxes of the polygon, run by run.
 pub fn fill(vertices: &[i32], boxes: &mut [i32])
-    requires { ⌜ Listed (now vertices) × Gridded coarse (now vertices) × (768 ≤ length (now boxes)) ⌝ }
+    requires { ⌜ Listed (now vertices) × Gridded fine (now vertices) × (768 ≤ length (now boxes)) ⌝ }
     ensures { λ _. ⌜ now (boxes .exit) ≡ boxesStored (now (vertices .entry))
         (runCount (vertexCount (now (vertices .entry)))) (now (boxes .entry)) ⌝ }
 {
@@ -167,13 +170,24 @@ fn corner(normal: Point, a: Point, b: Point) -> Point
     }
 }
 
-// The whole box lies strictly on one side of the plane with this normal.
-pub fn is_apart(normal: Point, b: Bounds) -> bool
-    requires { ⌜ Within (minors coarse) normal × Within coarse (b .low) × Within coarse (b .high) ⌝ }
-    ensures { λ r. ⌜ r ≡ isApart normal b ⌝ }
+// The whole box lies strictly on one side of the plane. The sums are exact on either grid.
+fn is_apart(plane: Plane, b: Bounds) -> bool
+    requires { ⌜ Sound plane × Within (limitOf (plane .grid)) (b .low) × Within (limitOf (plane .grid)) (b .high) ⌝ }
+    ensures { λ r. ⌜ r ≡ isApart (plane .normal) b ⌝ }
 {
-    if dot(normal, corner(normal, b.low, b.high)) > 0 {
+    let normal = plane.normal;
+    if exact_side_of(plane, corner(normal, b.low, b.high)) > 0 {
         return true;
     }
-    dot(normal, corner(normal, b.high, b.low)) < 0
+    exact_side_of(plane, corner(normal, b.high, b.low)) < 0
+}
+
+// The same of the box of run r.
+pub fn is_run_apart(plane: Plane, boxes: &[i32], r: usize) -> bool
+    requires { ⌜ Sound plane × (r * 6 + 6 ≤ length (now boxes)) ⌝ }
+    requires { ⌜ Within (limitOf (plane .grid)) (boxAt (now boxes) r .low)
+        × Within (limitOf (plane .grid)) (boxAt (now boxes) r .high) ⌝ }
+    ensures { λ t. ⌜ t ≡ isApart (plane .normal) (boxAt (now (boxes .entry)) r) ⌝ }
+{
+    is_apart(plane, box_at(boxes, r))
 }

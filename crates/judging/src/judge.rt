@@ -1,8 +1,8 @@
-// The calls that judge a query.
-// Here, in order: by_parity, verdict_on; Judgement, refused, judge_boxed, judge_accepted, judge_query, judge, looked.
-// Document 01, 'What comes back'; document 02, P2: each call builds its own boxes, a feed once. Assumes nothing.
+// The calls that judge a query. Here, in order: by_parity, verdict_on; Judgement, refused, judge_boxed, judge_accepted,
+// judge_query, judge, looked. Document 01, 'What comes back'; document 02, P2: each call builds its own
+// boxes, a feed once. Assumes nothing.
 ghost use mathlib.Core.Path.{_≡_};
-ghost use Rattle.sphere.specs.Point.{coarse};
+ghost use Rattle.sphere.specs.Point.{limitOf};
 ghost use Rattle.polygon.specs.declared.answer.Answer.the-variants.{Refused};
 ghost use Rattle.polygon.specs.declared.answer.Check.the-variants.{Passed};
 ghost use Rattle.polygon.specs.declared.answer.Found.the-variants.{Nothing};
@@ -18,7 +18,8 @@ use polygon::answer::Check;
 use polygon::checks::accept_check;
 use polygon::checks::far_check;
 use polygon::checks::query_check;
-use sphere::orientation::cross;
+use sphere::plane::plane_through;
+use sphere::point::Grid;
 use sphere::point::Point;
 
 // An even number of crossings means inside.
@@ -57,11 +58,17 @@ pub fn refused(number: u32, place: usize) -> Judgement
 }
 
 // One query to an accepted polygon with its boxes: a caller with many queries builds them once.
-pub fn judge_boxed(vertices: &[i32], boxes: &[i32], known: Point, query: Point) -> Judgement
-    requires { ⌜ (acceptCheck coarse (now vertices) known ≡ Passed) × Boxed (now vertices) (now boxes) ⌝ }
-    ensures { λ r. ⌜ r ≡ judgementOf coarse (now (vertices .entry)) known query ⌝ }
+pub fn judge_boxed(
+    grid: Grid,
+    vertices: &[i32],
+    boxes: &[i32],
+    known: Point,
+    query: Point,
+) -> Judgement
+    requires { ⌜ (acceptCheck (limitOf grid) (now vertices) known ≡ Passed) × Boxed (now vertices) (now boxes) ⌝ }
+    ensures { λ r. ⌜ r ≡ judgementOf (limitOf grid) (now (vertices .entry)) known query ⌝ }
 {
-    match query_check(query) {
+    match query_check(grid, query) {
         Check::Passed => {}
         Check::Failed(number, place) => return refused(number, place),
     }
@@ -69,7 +76,13 @@ pub fn judge_boxed(vertices: &[i32], boxes: &[i32], known: Point, query: Point) 
         Check::Passed => {}
         Check::Failed(number, place) => return refused(number, place),
     }
-    let w = walk_runs(vertices, boxes, known, query, cross(known, query));
+    let w = walk_runs(
+        vertices,
+        boxes,
+        known,
+        query,
+        plane_through(grid, known, query),
+    );
     let tally = w.tally;
     Judgement {
         answer: verdict_on(tally),
@@ -78,40 +91,40 @@ pub fn judge_boxed(vertices: &[i32], boxes: &[i32], known: Point, query: Point) 
 }
 
 // One query to an accepted polygon.
-pub fn judge_accepted(vertices: &[i32], known: Point, query: Point) -> Judgement
-    requires { ⌜ acceptCheck coarse (now vertices) known ≡ Passed ⌝ }
-    ensures { λ r. ⌜ r ≡ judgementOf coarse (now (vertices .entry)) known query ⌝ }
+pub fn judge_accepted(grid: Grid, vertices: &[i32], known: Point, query: Point) -> Judgement
+    requires { ⌜ acceptCheck (limitOf grid) (now vertices) known ≡ Passed ⌝ }
+    ensures { λ r. ⌜ r ≡ judgementOf (limitOf grid) (now (vertices .entry)) known query ⌝ }
 {
     let mut boxes = [0i32; 768];
     boxes::fill(vertices, &mut boxes);
-    judge_boxed(vertices, &boxes, known, query)
+    judge_boxed(grid, vertices, &boxes, known, query)
 }
 
-pub fn judge_query(vertices: &[i32], known: Point, query: Point) -> Answer
-    requires { ⌜ acceptCheck coarse (now vertices) known ≡ Passed ⌝ }
-    ensures { λ r. ⌜ r ≡ answerOf coarse (now (vertices .entry)) known query ⌝ }
+pub fn judge_query(grid: Grid, vertices: &[i32], known: Point, query: Point) -> Answer
+    requires { ⌜ acceptCheck (limitOf grid) (now vertices) known ≡ Passed ⌝ }
+    ensures { λ r. ⌜ r ≡ answerOf (limitOf grid) (now (vertices .entry)) known query ⌝ }
 {
-    judge_accepted(vertices, known, query).answer
+    judge_accepted(grid, vertices, known, query).answer
 }
 
 // The judging call: any numbers.
-pub fn judge(vertices: &[i32], known: Point, query: Point) -> Answer
-    ensures { λ r. ⌜ r ≡ answerOf coarse (now (vertices .entry)) known query ⌝ }
+pub fn judge(grid: Grid, vertices: &[i32], known: Point, query: Point) -> Answer
+    ensures { λ r. ⌜ r ≡ answerOf (limitOf grid) (now (vertices .entry)) known query ⌝ }
 {
-    match accept_check(vertices, known) {
+    match accept_check(grid, vertices, known) {
         Check::Passed => {}
         Check::Failed(number, place) => return Answer::Refused(number, place),
     }
-    judge_query(vertices, known, query)
+    judge_query(grid, vertices, known, query)
 }
 
 // How many edges the judging call looks at: any numbers.
-pub fn looked(vertices: &[i32], known: Point, query: Point) -> u32
-    ensures { λ r. ⌜ r ≡ lookedOf coarse (now (vertices .entry)) known query ⌝ }
+pub fn looked(grid: Grid, vertices: &[i32], known: Point, query: Point) -> u32
+    ensures { λ r. ⌜ r ≡ lookedOf (limitOf grid) (now (vertices .entry)) known query ⌝ }
 {
-    match accept_check(vertices, known) {
+    match accept_check(grid, vertices, known) {
         Check::Passed => {}
         Check::Failed(_, _) => return 0,
     }
-    judge_accepted(vertices, known, query).looked
+    judge_accepted(grid, vertices, known, query).looked
 }

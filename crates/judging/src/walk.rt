@@ -1,13 +1,14 @@
-// The walk over a polygon's edges: document 01's 'When the arc crosses a side', and document 02's P2.
-// Here, in order: Met, meet (one edge); counted, Tally, tally_by, Near, next_near, last_inner, side_at, walk_edges (some
-// edges); looked_in, next_run, Walk, walk_runs (all, run by run). The plane through the reference point and the query
-// has its normal worked out once, and each vertex that the walk comes to its side of it. Assumes nothing.
+// The walk over a polygon's edges: document 01's 'When the arc crosses a side', and document 02's P2. Here, in order:
+// Met, meet (one edge); counted, Tally, tally_by, Near, next_near, last_inner, side_at, walk_edges (some edges);
+// looked_in, next_run, Walk, walk_runs (all, run by run). The plane through the reference point and the query has its
+// normal worked out once, and each vertex that the walk comes to its side of it. Assumes nothing.
 ghost use mathlib.Core.Path.{_≡_};
 ghost use mathlib.Core.Bool.{cond};
 ghost use Prim.Native.Nat.{_+_, _*_, _-_, _≤_, _<_};
 ghost use Rattle.integers.specs.Sign.{signOf, isZero};
-ghost use Rattle.sphere.specs.Point.{coarse, minors, Within};
+ghost use Rattle.sphere.specs.Point.{limitOf, Within};
 ghost use Rattle.sphere.specs.Orientation.{orientationOf, crossOf};
+ghost use Rattle.sphere.specs.Plane.{Sound};
 ghost use Rattle.polygon.specs.declared.answer.Check.the-variants.{Passed};
 ghost use Rattle.polygon.specs.Checks.{acceptCheck};
 ghost use Rattle.polygon.specs.Accepted.{Listed, Gridded};
@@ -23,8 +24,9 @@ use polygon::vertices::end_of;
 use polygon::vertices::vertex_at;
 use sphere::crossing::crossing_from;
 use sphere::crossing::is_beside;
-use sphere::orientation::dot;
-use sphere::orientation::orientation;
+use sphere::plane::Plane;
+use sphere::plane::plane_through;
+use sphere::plane::side_of;
 use sphere::point::Point;
 
 // What one edge says of a query: it is border and holds it, or which way the arc crosses it (0: not at all).
@@ -39,27 +41,32 @@ fn meet(
     boxes: &[i32],
     known: Point,
     query: Point,
+    plane: Plane,
     i: usize,
     a: Point,
     b: Point,
     s1: i64,
     s2: i64,
 ) -> Met
-    requires { ⌜ (acceptCheck coarse (now vertices) known ≡ Passed) × Within coarse query
+    requires { ⌜ (acceptCheck (limitOf (plane .grid)) (now vertices) known ≡ Passed)
+        × Within (limitOf (plane .grid)) query
         × Boxed (now vertices) (now boxes) ⌝ }
     requires { ⌜ (i < vertexCount (now vertices)) × (a ≡ startOf (now vertices) i) × (b ≡ endOf (now vertices) i) ⌝ }
-    requires { ⌜ (s1 ≡ orientationOf known query a) × (s2 ≡ orientationOf known query b) ⌝ }
+    requires { ⌜ (signOf s1 ≡ signOf (orientationOf known query a))
+        × (signOf s2 ≡ signOf (orientationOf known query b)) ⌝ }
     ensures { λ r. ⌜ r ≡ metBy (isCoast (now (vertices .entry)) query i)
         (wayOf (now (vertices .entry)) known query i) ⌝ }
 {
     if is_beside(s1, s2) {
         return Met::Way(0);
     }
-    let s4 = orientation(a, b, query);
-    if is_coast(vertices, boxes, known, i, a, b, query, s4) {
+    let grid = plane.grid;
+    let edge = plane_through(grid, a, b);
+    let s4 = side_of(edge, query);
+    if is_coast(grid, vertices, boxes, known, i, a, b, query, s4) {
         return Met::Coast;
     }
-    Met::Way(crossing_from(known, a, b, s1, s2, s4))
+    Met::Way(crossing_from(edge, known, s1, s2, s4))
 }
 
 // What an edge adds to the count, by the way in which it is crossed.
@@ -97,18 +104,18 @@ pub struct Near {
 // Past the edges from i on, before `last`, whose ends are strictly on one side. Most edges of a run are, so this is the
 // inner loop: a vertex a turn. `side` is that of vertex i. Only the edge after them may go back to vertex 0, whose side
 // is `home`.
-fn next_near(vertices: &[i32], normal: Point, home: i64, i: usize, side: i64, last: usize) -> Near
-    requires { ⌜ Listed (now vertices) × Gridded coarse (now vertices) × Within (minors coarse) normal ⌝ }
+fn next_near(vertices: &[i32], plane: Plane, home: i64, i: usize, side: i64, last: usize) -> Near
+    requires { ⌜ Listed (now vertices) × Gridded (limitOf (plane .grid)) (now vertices) × Sound plane ⌝ }
     requires { ⌜ (i ≤ vertexCount (now vertices)) × (last < vertexCount (now vertices)) ⌝ }
-    requires { ⌜ Sided (now vertices) normal i side × Sided (now vertices) normal 0 home ⌝ }
-    ensures { λ r. ⌜ (r .edge ≡ stopFrom (isNear (now (vertices .entry)) normal) i (last - i))
-        × Sided (now (vertices .entry)) normal (r .edge) (r .start)
-        × Sided (now (vertices .entry)) normal (nextOf (last + 1) (r .edge)) (r .end) ⌝ }
+    requires { ⌜ Sided (now vertices) (plane .normal) i side × Sided (now vertices) (plane .normal) 0 home ⌝ }
+    ensures { λ r. ⌜ (r .edge ≡ stopFrom (isNear (now (vertices .entry)) (plane .normal)) i (last - i))
+        × Sided (now (vertices .entry)) (plane .normal) (r .edge) (r .start)
+        × Sided (now (vertices .entry)) (plane .normal) (nextOf (last + 1) (r .edge)) (r .end) ⌝ }
 {
     let mut edge = i;
     let mut s1 = side;
     while edge < last {
-        let s2 = dot(normal, vertex_at(vertices, edge + 1));
+        let s2 = side_of(plane, vertex_at(vertices, edge + 1));
         if !is_beside(s1, s2) {
             return Near {
                 edge: edge,
@@ -138,15 +145,15 @@ fn last_inner(n: usize, to: usize) -> usize
 }
 
 // The side of vertex i, where that of vertex 0 is known.
-fn side_at(vertices: &[i32], normal: Point, home: i64, i: usize) -> i64
-    requires { ⌜ Gridded coarse (now vertices) × Within (minors coarse) normal × (i < vertexCount (now vertices)) ⌝ }
-    requires { ⌜ Sided (now vertices) normal 0 home ⌝ }
-    ensures { λ r. ⌜ r ≡ sideOf (now (vertices .entry)) normal i ⌝ }
+fn side_at(vertices: &[i32], plane: Plane, home: i64, i: usize) -> i64
+    requires { ⌜ Gridded (limitOf (plane .grid)) (now vertices) × Sound plane × (i < vertexCount (now vertices)) ⌝ }
+    requires { ⌜ Sided (now vertices) (plane .normal) 0 home ⌝ }
+    ensures { λ r. ⌜ signOf r ≡ signOf (sideOf (now (vertices .entry)) (plane .normal) i) ⌝ }
 {
     if i == 0 {
         return home;
     }
-    dot(normal, vertex_at(vertices, i))
+    side_of(plane, vertex_at(vertices, i))
 }
 
 // One pass over the edges before `to`: the first border edge that holds the query ends it, and the crossings are
@@ -156,20 +163,21 @@ fn walk_edges(
     boxes: &[i32],
     known: Point,
     query: Point,
-    normal: Point,
+    plane: Plane,
     home: i64,
     from: usize,
     to: usize,
 ) -> Tally
-    requires { ⌜ (acceptCheck coarse (now vertices) known ≡ Passed) × Within coarse query
+    requires { ⌜ (acceptCheck (limitOf (plane .grid)) (now vertices) known ≡ Passed)
+        × Within (limitOf (plane .grid)) query
         × Boxed (now vertices) (now boxes) ⌝ }
-    requires { ⌜ (normal ≡ crossOf known query) × Sided (now vertices) normal 0 home ⌝ }
+    requires { ⌜ (plane .normal ≡ crossOf known query) × Sound plane × Sided (now vertices) (plane .normal) 0 home ⌝ }
     requires { ⌜ (from < to) × (to ≤ vertexCount (now vertices)) ⌝ }
     ensures { λ r. ⌜ r ≡ tallyFrom (now (vertices .entry)) known query from (to - from) ⌝ }
 {
     let last = last_inner(vertices.len() / 3, to);
-    let first = side_at(vertices, normal, home, from);
-    let mut near = next_near(vertices, normal, home, from, first, last);
+    let first = side_at(vertices, plane, home, from);
+    let mut near = next_near(vertices, plane, home, from, first, last);
     let mut crossed: u32 = 0;
     let mut sum: i32 = 0;
     let found = loop {
@@ -179,13 +187,24 @@ fn walk_edges(
         }
         let a = vertex_at(vertices, i);
         let b = end_of(vertices, i);
-        let way = match meet(vertices, boxes, known, query, i, a, b, near.start, near.end) {
+        let way = match meet(
+            vertices,
+            boxes,
+            known,
+            query,
+            plane,
+            i,
+            a,
+            b,
+            near.start,
+            near.end,
+        ) {
             Met::Coast => break Found::At(i),
             Met::Way(way) => way,
         };
         crossed += counted(way);
         sum += way;
-        near = next_near(vertices, normal, home, i + 1, near.end, last);
+        near = next_near(vertices, plane, home, i + 1, near.end, last);
     };
     tally_by(found, crossed, sum)
 }
@@ -202,13 +221,13 @@ fn looked_in(tally: Tally, from: usize, to: usize) -> u32
 }
 
 // The first run from r on that is skipped, or that is not: whose box lies strictly on one side of the plane, or not.
-fn next_run(boxes: &[i32], normal: Point, r: usize, runs: usize, skipped: bool) -> usize
-    requires { ⌜ Within (minors coarse) normal × Cornered (now boxes) runs ⌝ }
-    ensures { λ to. ⌜ to ≡ stopFrom (isRun (now (boxes .entry)) normal skipped) r (runs - r) ⌝ }
+fn next_run(boxes: &[i32], plane: Plane, r: usize, runs: usize, skipped: bool) -> usize
+    requires { ⌜ Sound plane × Cornered (limitOf (plane .grid)) (now boxes) runs ⌝ }
+    ensures { λ to. ⌜ to ≡ stopFrom (isRun (now (boxes .entry)) (plane .normal) skipped) r (runs - r) ⌝ }
 {
     let mut i = r;
     while i < runs {
-        if boxes::is_apart(normal, boxes::box_at(boxes, i)) == skipped {
+        if boxes::is_run_apart(plane, boxes, i) == skipped {
             return i;
         }
         i += 1;
@@ -224,27 +243,28 @@ pub struct Walk {
 
 // All runs, in order, up to the first border edge that holds the query. Runs that are not skipped are walked together
 // as far as they follow each other, so no vertex between them is met twice.
-pub fn walk_runs(vertices: &[i32], boxes: &[i32], known: Point, query: Point, normal: Point) -> Walk
-    requires { ⌜ (acceptCheck coarse (now vertices) known ≡ Passed) × Within coarse query ⌝ }
-    requires { ⌜ (normal ≡ crossOf known query) × Boxed (now vertices) (now boxes) ⌝ }
+pub fn walk_runs(vertices: &[i32], boxes: &[i32], known: Point, query: Point, plane: Plane) -> Walk
+    requires { ⌜ (acceptCheck (limitOf (plane .grid)) (now vertices) known ≡ Passed)
+        × Within (limitOf (plane .grid)) query ⌝ }
+    requires { ⌜ (plane .normal ≡ crossOf known query) × Sound plane × Boxed (now vertices) (now boxes) ⌝ }
     ensures { λ w. ⌜ w ≡ walkFrom (now (vertices .entry)) known query 0 (vertexCount (now (vertices .entry))) ⌝ }
 {
     let n = vertices.len() / 3;
     let runs = boxes::run_count(n);
-    let home = dot(normal, vertex_at(vertices, 0));
+    let home = side_of(plane, vertex_at(vertices, 0));
     let mut r = 0;
     let mut crossed: u32 = 0;
     let mut sum: i32 = 0;
     let mut looked: u32 = 0;
     let found = loop {
-        let first = next_run(boxes, normal, r, runs, false);
+        let first = next_run(boxes, plane, r, runs, false);
         if first >= runs {
             break Found::Nothing;
         }
-        let end = next_run(boxes, normal, first + 1, runs, true);
+        let end = next_run(boxes, plane, first + 1, runs, true);
         let from = first * 32;
         let to = boxes::run_end(n, end - 1);
-        let tally = walk_edges(vertices, boxes, known, query, normal, home, from, to);
+        let tally = walk_edges(vertices, boxes, known, query, plane, home, from, to);
         looked += looked_in(tally, from, to);
         match tally {
             Tally::Held(edge) => break Found::At(edge),

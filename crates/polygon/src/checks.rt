@@ -4,7 +4,7 @@
 // is_accepted, accept_check (10 to 16). Each check of the list passes over it once and reads each vertex once. Those
 // after line 11 rest on the grid. Assumes nothing.
 ghost use mathlib.Core.Path.{_≡_};
-ghost use Rattle.sphere.specs.Point.{coarse, Within};
+ghost use Rattle.sphere.specs.Point.{fine, limitOf, Within};
 ghost use Rattle.polygon.specs.declared.answer.Check.the-variants.{Passed};
 ghost use Rattle.polygon.specs.Checks.{failsIf, listCheck, beyondCheck, nullCheck, sameCheck, antipodalCheck};
 ghost use Rattle.polygon.specs.Checks.{referenceCheck, circleCheck, queryCheck, farCheck};
@@ -16,6 +16,7 @@ use crate::vertices::vertex_at;
 use sphere::direction::antipodal;
 use sphere::direction::same_direction;
 use sphere::edge::on_circle;
+use sphere::point::Grid;
 use sphere::point::Point;
 use sphere::point::is_beyond;
 use sphere::point::is_null;
@@ -47,12 +48,12 @@ pub fn list_check(vertices: &[i32]) -> Check
     Check::Passed
 }
 
-pub fn beyond_check(vertices: &[i32]) -> Check
-    ensures { λ r. ⌜ r ≡ beyondCheck coarse (now (vertices .entry)) ⌝ }
+pub fn beyond_check(grid: Grid, vertices: &[i32]) -> Check
+    ensures { λ r. ⌜ r ≡ beyondCheck (limitOf grid) (now (vertices .entry)) ⌝ }
 {
     let n = vertices.len() / 3;
     for i in 0..n {
-        if is_beyond(vertex_at(vertices, i)) {
+        if is_beyond(grid, vertex_at(vertices, i)) {
             return Check::Failed(11, i);
         }
     }
@@ -72,7 +73,7 @@ pub fn null_check(vertices: &[i32]) -> Check
 }
 
 pub fn same_check(vertices: &[i32]) -> Check
-    requires { ⌜ Listed (now vertices) × Gridded coarse (now vertices) ⌝ }
+    requires { ⌜ Listed (now vertices) × Gridded fine (now vertices) ⌝ }
     ensures { λ r. ⌜ r ≡ sameCheck (now (vertices .entry)) ⌝ }
 {
     let n = vertices.len() / 3;
@@ -88,7 +89,7 @@ pub fn same_check(vertices: &[i32]) -> Check
 }
 
 pub fn antipodal_check(vertices: &[i32]) -> Check
-    requires { ⌜ Listed (now vertices) × Gridded coarse (now vertices) ⌝ }
+    requires { ⌜ Listed (now vertices) × Gridded fine (now vertices) ⌝ }
     ensures { λ r. ⌜ r ≡ antipodalCheck (now (vertices .entry)) ⌝ }
 {
     let n = vertices.len() / 3;
@@ -103,22 +104,22 @@ pub fn antipodal_check(vertices: &[i32]) -> Check
     Check::Passed
 }
 
-pub fn reference_check(known: Point) -> Check
-    ensures { λ r. ⌜ r ≡ referenceCheck coarse known ⌝ }
+pub fn reference_check(grid: Grid, known: Point) -> Check
+    ensures { λ r. ⌜ r ≡ referenceCheck (limitOf grid) known ⌝ }
 {
-    fails_if(15, is_off_grid(known))
+    fails_if(15, is_off_grid(grid, known))
 }
 
 // The reference point on the great circle of an edge.
-pub fn circle_check(vertices: &[i32], known: Point) -> Check
-    requires { ⌜ Listed (now vertices) × Gridded coarse (now vertices) × Within coarse known ⌝ }
+pub fn circle_check(grid: Grid, vertices: &[i32], known: Point) -> Check
+    requires { ⌜ Listed (now vertices) × Gridded (limitOf grid) (now vertices) × Within (limitOf grid) known ⌝ }
     ensures { λ r. ⌜ r ≡ circleCheck (now (vertices .entry)) known ⌝ }
 {
     let n = vertices.len() / 3;
     let mut a = vertex_at(vertices, 0);
     for i in 0..n {
         let b = end_of(vertices, i);
-        if on_circle(a, b, known) {
+        if on_circle(grid, a, b, known) {
             return Check::Failed(16, i);
         }
         a = b;
@@ -126,28 +127,28 @@ pub fn circle_check(vertices: &[i32], known: Point) -> Check
     Check::Passed
 }
 
-pub fn query_check(query: Point) -> Check
-    ensures { λ r. ⌜ r ≡ queryCheck coarse query ⌝ }
+pub fn query_check(grid: Grid, query: Point) -> Check
+    ensures { λ r. ⌜ r ≡ queryCheck (limitOf grid) query ⌝ }
 {
-    fails_if(17, is_off_grid(query))
+    fails_if(17, is_off_grid(grid, query))
 }
 
 pub fn far_check(known: Point, query: Point) -> Check
-    requires { ⌜ Within coarse known × Within coarse query ⌝ }
+    requires { ⌜ Within fine known × Within fine query ⌝ }
     ensures { λ r. ⌜ r ≡ farCheck known query ⌝ }
 {
     fails_if(18, antipodal(known, query))
 }
 
 // The polygon alone.
-pub fn polygon_check(vertices: &[i32]) -> Check
-    ensures { λ r. ⌜ r ≡ polygonCheck coarse (now (vertices .entry)) ⌝ }
+pub fn polygon_check(grid: Grid, vertices: &[i32]) -> Check
+    ensures { λ r. ⌜ r ≡ polygonCheck (limitOf grid) (now (vertices .entry)) ⌝ }
 {
     match list_check(vertices) {
         Check::Passed => {}
         Check::Failed(number, place) => return Check::Failed(number, place),
     }
-    match beyond_check(vertices) {
+    match beyond_check(grid, vertices) {
         Check::Passed => {}
         Check::Failed(number, place) => return Check::Failed(number, place),
     }
@@ -162,51 +163,51 @@ pub fn polygon_check(vertices: &[i32]) -> Check
     antipodal_check(vertices)
 }
 
-// The polygon accepts the point as its reference point, where lines 10 and 11 hold. Off the circle of each edge there is
-// no null vertex, nor an edge with its ends on one line: lines 12 to 14 need no passes of their own.
-pub fn accepts(vertices: &[i32], point: Point) -> bool
-    requires { ⌜ (listCheck (now vertices) ≡ Passed) × (beyondCheck coarse (now vertices) ≡ Passed) ⌝ }
-    ensures { λ r. ⌜ r ≡ isPassed (acceptCheck coarse (now (vertices .entry)) point) ⌝ }
+// The polygon accepts the point as its reference point, where lines 10 and 11 hold. Off the circle of each edge there
+// is no null vertex, nor an edge with its ends on one line: lines 12 to 14 need no passes of their own.
+pub fn accepts(grid: Grid, vertices: &[i32], point: Point) -> bool
+    requires { ⌜ (listCheck (now vertices) ≡ Passed) × (beyondCheck (limitOf grid) (now vertices) ≡ Passed) ⌝ }
+    ensures { λ r. ⌜ r ≡ isPassed (acceptCheck (limitOf grid) (now (vertices .entry)) point) ⌝ }
 {
-    match reference_check(point) {
+    match reference_check(grid, point) {
         Check::Passed => {}
         Check::Failed(_, _) => return false,
     }
-    match circle_check(vertices, point) {
+    match circle_check(grid, vertices, point) {
         Check::Passed => true,
         Check::Failed(_, _) => false,
     }
 }
 
 // All checks pass, by two passes over the list.
-fn is_accepted(vertices: &[i32], known: Point) -> bool
-    ensures { λ r. ⌜ r ≡ isPassed (acceptCheck coarse (now (vertices .entry)) known) ⌝ }
+fn is_accepted(grid: Grid, vertices: &[i32], known: Point) -> bool
+    ensures { λ r. ⌜ r ≡ isPassed (acceptCheck (limitOf grid) (now (vertices .entry)) known) ⌝ }
 {
     match list_check(vertices) {
         Check::Passed => {}
         Check::Failed(_, _) => return false,
     }
-    match beyond_check(vertices) {
+    match beyond_check(grid, vertices) {
         Check::Passed => {}
         Check::Failed(_, _) => return false,
     }
-    accepts(vertices, known)
+    accepts(grid, vertices, known)
 }
 
 // The polygon with its reference point. Which line refuses it is worked out only if one does.
-pub fn accept_check(vertices: &[i32], known: Point) -> Check
-    ensures { λ r. ⌜ r ≡ acceptCheck coarse (now (vertices .entry)) known ⌝ }
+pub fn accept_check(grid: Grid, vertices: &[i32], known: Point) -> Check
+    ensures { λ r. ⌜ r ≡ acceptCheck (limitOf grid) (now (vertices .entry)) known ⌝ }
 {
-    if is_accepted(vertices, known) {
+    if is_accepted(grid, vertices, known) {
         return Check::Passed;
     }
-    match polygon_check(vertices) {
+    match polygon_check(grid, vertices) {
         Check::Passed => {}
         Check::Failed(number, place) => return Check::Failed(number, place),
     }
-    match reference_check(known) {
+    match reference_check(grid, known) {
         Check::Passed => {}
         Check::Failed(number, place) => return Check::Failed(number, place),
     }
-    circle_check(vertices, known)
+    circle_check(grid, vertices, known)
 }

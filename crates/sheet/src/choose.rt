@@ -1,6 +1,6 @@
 // Choosing a second point for a sheet: document 02's P4. Any bytes; nothing is written.
-// Here, in order: candidate_at, earliest, first_second, choose. Candidates have twelve bytes each, and there is any number of
-// them: they are decoded one at a time. Assumes nothing.
+// Here, in order: candidate_at, earliest, first_second, choose. Candidates have twelve bytes each, and there is any
+// number of them: they are decoded one at a time. Assumes nothing.
 ghost use mathlib.Core.Path.{_≡_};
 ghost use Prim.Native.Nat.{_<_};
 ghost use Rattle.sphere.specs.Point.{coarse};
@@ -16,6 +16,7 @@ use judging::boxes;
 use judging::pair::is_second;
 use polygon::answer::Answer;
 use polygon::answer::Check;
+use sphere::point::Grid;
 use sphere::point::Point;
 
 fn candidate_at(candidates: &[u8], i: usize) -> Point
@@ -32,7 +33,13 @@ fn earliest(vertices: &[i32], boxes: &[i32], known: Point, candidates: &[u8]) ->
 {
     let n = candidates.len() / 12;
     for i in 0..n {
-        if is_second(vertices, boxes, known, candidate_at(candidates, i)) {
+        if is_second(
+            Grid::Coarse,
+            vertices,
+            boxes,
+            known,
+            candidate_at(candidates, i),
+        ) {
             return Answer::Done(i);
         }
     }

@@ -9,6 +9,7 @@ use batch::feed::judge_all;
 use batch::feed::size_check;
 use polygon::answer::Answer;
 use polygon::answer::Check;
+use sphere::point::Grid;
 
 // All that is checked once for a feed, with `room` bytes for its results.
 pub fn feed_check(sheet: &[u8], queries: &[u8], room: usize) -> Check
@@ -49,6 +50,13 @@ pub fn feed(sheet: &[u8], queries: &[u8], results: &mut [u8]) -> Answer
     let size = open::vertex_count(sheet) * 3;
     let known = open::known_point(sheet);
     let second = open::second_point(sheet);
-    judge_all(&scratch[..size], known, second, queries, results);
+    judge_all(
+        Grid::Coarse,
+        &scratch[..size],
+        known,
+        second,
+        queries,
+        results,
+    );
     Answer::Done(0)
 }

@@ -12,6 +12,7 @@ use judging::judge::refused;
 use judging::pair::judge_called;
 use polygon::answer::Answer;
 use polygon::answer::Check;
+use sphere::point::Grid;
 use sphere::point::Point;
 
 // The vertices are decoded to the front of `scratch`.
@@ -24,6 +25,7 @@ fn judgement_in(b: &[u8], query: Point, scratch: &mut [i32]) -> Judgement
         Check::Passed => {
             let size = open::vertex_count(b) * 3;
             judge_called(
+                Grid::Coarse,
                 &scratch[..size],
                 open::known_point(b),
                 open::second_point(b),

@@ -10,6 +10,7 @@ use crate::store;
 use judging::pair;
 use polygon::answer::Answer;
 use polygon::answer::Check;
+use sphere::point::Grid;
 use sphere::point::Point;
 use sphere::point::is_null;
 
@@ -22,7 +23,7 @@ fn input_check(charset: u32, name: &[u8], known: Point, vertices: &[i32], second
     if !fields::is_allowed(name.len(), 1, 120, 1) {
         return Check::Failed(22, 0);
     }
-    pair::optional_check(vertices, known, second)
+    pair::optional_check(Grid::Coarse, vertices, known, second)
 }
 
 // The bytes of the second point's field.

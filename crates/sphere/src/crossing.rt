@@ -1,12 +1,14 @@
 // One edge crossed by the arc from the reference point to the query, and which way (document 02, P6).
-// Here, in order: changes_side, is_beside, crossing_by, crossing_from, crossing. Document 01, 'When the arc crosses a
-// side'. A walk over a polygon has some of the four orientations at hand, and uses crossing_from. Assumes nothing.
+// Here, in order: changes_side, is_beside, crossing_by, crossing_from. Document 01, 'When the arc crosses a
+// side'. Only the signs of the four orientations matter, so a side is any number with the sign. Assumes nothing.
 ghost use mathlib.Core.Path.{_≡_};
 ghost use Rattle.integers.specs.Sign.{signOf, unitOf};
-ghost use Rattle.sphere.specs.Point.{coarse, Within};
-ghost use Rattle.sphere.specs.Orientation.{orientationOf};
-ghost use Rattle.sphere.specs.Crossing.{crossingBy, crossingOf, changesSide, isBeside};
-use crate::orientation::orientation;
+ghost use Rattle.sphere.specs.Point.{limitOf, Within};
+ghost use Rattle.sphere.specs.Orientation.{dotOf};
+ghost use Rattle.sphere.specs.Plane.{Sound};
+ghost use Rattle.sphere.specs.Crossing.{crossingBy, changesSide, isBeside};
+use crate::plane::Plane;
+use crate::plane::side_of;
 use crate::point::Point;
 
 // The edge's ends lie on different sides of the arc's plane. If not, the edge is not crossed.
@@ -57,26 +59,14 @@ pub fn crossing_by(s1: i64, s2: i64, s3: i64, s4: i64) -> i32
     0
 }
 
-// By s1, s2 and s4. s3 is worked out only where the edge changes side.
-pub fn crossing_from(x: Point, a: Point, b: Point, s1: i64, s2: i64, s4: i64) -> i32
-    requires { ⌜ Within coarse x × Within coarse a × Within coarse b ⌝ }
-    ensures { λ r. ⌜ r ≡ unitOf (crossingBy (signOf s1) (signOf s2) (signOf (orientationOf a b x)) (signOf s4)) ⌝ }
+// By s1, s2, s4 and the edge's own plane. s3, the side of it on which x lies, is worked out only where the edge changes
+// side.
+pub fn crossing_from(edge: Plane, x: Point, s1: i64, s2: i64, s4: i64) -> i32
+    requires { ⌜ Sound edge × Within (limitOf (edge .grid)) x ⌝ }
+    ensures { λ r. ⌜ r ≡ unitOf (crossingBy (signOf s1) (signOf s2) (signOf (dotOf (edge .normal) x)) (signOf s4)) ⌝ }
 {
     if changes_side(s1, s2) {
-        return crossing_by(s1, s2, orientation(a, b, x), s4);
-    }
-    0
-}
-
-// How the arc from x to p crosses the edge from a to b. s3 and s4 are worked out only where the edge changes side.
-pub fn crossing(x: Point, p: Point, a: Point, b: Point) -> i32
-    requires { ⌜ Within coarse x × Within coarse p × Within coarse a × Within coarse b ⌝ }
-    ensures { λ r. ⌜ r ≡ unitOf (crossingOf x p a b) ⌝ }
-{
-    let s1 = orientation(x, p, a);
-    let s2 = orientation(x, p, b);
-    if changes_side(s1, s2) {
-        return crossing_by(s1, s2, orientation(a, b, x), orientation(a, b, p));
+        return crossing_by(s1, s2, side_of(edge, x), s4);
     }
     0
 }

@@ -24,9 +24,11 @@ beside-met vs X P i off h e =
     let B = endOf vs i in
     rw (beside-not-on X P A B (off i h) e, beside-not-crossed X P A B e)
 
-pub way-told : (X P : Point) {a b c d : Point} {s1 s2 s4 r : ℤ} →
-    r ≡ unitOf (crossingBy (signOf s1) (signOf s2) (signOf (orientationOf a b X)) (signOf s4)) →
-    s1 ≡ orientationOf X P a → s2 ≡ orientationOf X P b → s4 ≡ orientationOf a b P → a ≡ c → b ≡ d →
+pub way-told : (X P : Point) {a b c d : Point} (s1 s2 s3 s4 : ℤ) {r : ℤ} →
+    r ≡ unitOf (crossingBy (signOf s1) (signOf s2) (signOf s3) (signOf s4)) →
+    signOf s3 ≡ signOf (orientationOf a b X) →
+    signOf s1 ≡ signOf (orientationOf X P a) → signOf s2 ≡ signOf (orientationOf X P b) →
+    signOf s4 ≡ signOf (orientationOf a b P) → a ≡ c → b ≡ d →
     r ≡ unitOf (crossingOf X P c d)
 unfolding crossingOf
-way-told X P r s1 s2 s4 a b = cc
+way-told X P s1 s2 s3 s4 r t3 t1 t2 t4 a b = cc

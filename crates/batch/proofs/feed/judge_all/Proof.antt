@@ -1,23 +1,28 @@
 -- `judge_all` meets its contract. Assumes nothing.
 use borrow.Author.Needs.{needs}
-use Rattle.sphere.specs.Point.{coarse}
+use Rattle.sphere.specs.Point.{limitOf}
 use Rattle.polygon.specs.Accepted.{Accepted}
-use Rattle.polygon.proofs.Laws.Checks.{accept-passed}
+use Rattle.polygon.proofs.Laws.Checks.{accept-passed, gridded-fine}
 use Rattle.polygon.proofs.Laws.Pair.{optional-first}
 use Rattle.judging.proofs.Laws.Stored.{stored-boxed}
 use Rattle.batch.proofs.feed.judge_all.Statement.{statement}
 use Rattle.batch.proofs.feed.judge_all.Tie as tie
 
-accepted : (c : tie.Start) → Accepted coarse (c .args .vertices .now) (c .args .known)
+accepted : (c : tie.Start) → Accepted (limitOf (c .args .grid)) (c .args .vertices .now) (c .args .known)
 accepted c =
-    accept-passed (optional-first coarse (c .args .vertices .now) (c .args .known) (c .args .second) (c .pre .0))
+    accept-passed
+    (optional-first (limitOf (c .args .grid)) (c .args .vertices .now) (c .args .known) (c .args .second) (c .pre .0))
 
 slice-aggregate-fill : tie.Need-slice-aggregate-fill
 slice-aggregate-fill c = search needs
 
 fill-requires : tie.Need-fill-requires
 fill-requires c κs =
-    let a = accepted (c .before .before .before) in (a .listed, a .gridded, search needs)
+    let a = accepted (c .before .before .before) in (
+      a .listed,
+      gridded-fine (c .before .before .before .args .grid) (a .gridded),
+      search needs,
+    )
 
 slice-aggregate-judge-each : tie.Need-slice-aggregate-judge-each
 slice-aggregate-judge-each c = search needs

@@ -5,19 +5,19 @@ use native.Mathlib.Omega.{arith}
 use borrow.Author.Needs.{needs}
 use lib.ListN.{length}
 use lib.Seq.{sets}
-use Rattle.sphere.specs.Point.{coarse}
+use Rattle.sphere.specs.Point.{limitOf}
 use Rattle.batch.specs.Feed.{queryCount, resultOf, resultsBytes, feedBytes}
 use Rattle.batch.proofs.Laws.Results.{resultBytes-length, results-more}
 use Rattle.batch.proofs.feed.judge_each.Statement.{statement}
 use Rattle.batch.proofs.feed.judge_each.Tie as tie
 
 abbrev Inv-loop : tie.InvT-loop
-Inv-loop vertices boxes known second queries results₀ n i₀ results i =
+Inv-loop grid vertices boxes known second queries results₀ n i₀ results i =
     (i ≤ n) × (length results ≡ length results₀)
-    × (results ≡ sets results₀ 0 (resultsBytes (resultOf coarse vertices known second queries) i))
+    × (results ≡ sets results₀ 0 (resultsBytes (resultOf (limitOf grid) vertices known second queries) i))
 
 abbrev μ-loop : tie.MeasureT-loop
-μ-loop vertices boxes known second queries results₀ n i₀ results i = n - i
+μ-loop grid vertices boxes known second queries results₀ n i₀ results i = n - i
 
 loop-holds : tie.Need-loop-holds Inv-loop μ-loop
 unfolding resultsBytes
@@ -37,9 +37,9 @@ loop-again c =
     let one = c .before .before .judge-one in
     let l = c .before .before .before .before .before .loop in
     let s = c .before .before .before .before .before .before .before .before .args in
-    let result = resultOf coarse (s .vertices .now) (s .known) (s .second) (s .queries .now) in
+    let result = resultOf (limitOf (s .grid)) (s .vertices .now) (s .known) (s .second) (s .queries .now) in
     let more = results-more result (λ i. resultBytes-length _) (s .results .now) (l .i) in
-    (omega arith, one .kept .1 .1 .1 .1 .1 .1 .0 ∙ l .inv .1, rw (l .inv .2) at (one .ensures) ∙ more)
+    (omega arith, one .kept .1 .1 .1 .1 .1 .1 .1 .0 ∙ l .inv .1, rw (l .inv .2) at (one .ensures) ∙ more)
 
 same-length : tie.Need-same-length Inv-loop μ-loop
 same-length c = c .before .loop .inv .1

@@ -2,7 +2,7 @@
 use mathlib.Core.Path.{_≡_, ap, _∙_}
 use native.Mathlib.Omega.{arith}
 use borrow.Author.Needs.{needs}
-use Rattle.sphere.specs.Point.{coarse}
+use Rattle.sphere.specs.Point.{limitOf}
 use Rattle.polygon.specs.Verdict.{answerOf}
 use Rattle.polygon.specs.Pair.{judgeFrom, calledOf}
 use Rattle.polygon.proofs.Laws.Pair.{called-judged}
@@ -17,14 +17,15 @@ use Rattle.batch.proofs.feed.judge_one.Tie as tie
 answered : (c : tie.After-judge-called-boxed) →
     let s = c .before .before .before .before .args in
     let P = queryAt (s .queries .now) (s .i) in
-    c .judge-called-boxed .result .answer ≡ answerOf coarse (s .vertices .now) (judgeFrom (s .known) (s .second) P) P
+    c .judge-called-boxed .result .answer
+    ≡ answerOf (limitOf (s .grid)) (s .vertices .now) (judgeFrom (s .known) (s .second) P) P
 unfolding calledJudgementOf
 answered c =
     let start = c .before .before .before .before in
     let s = start .args in
     ap (λ j. j .answer) (c .judge-called-boxed .ensures)
-    ∙ ap (calledOf coarse (s .vertices .now) (s .known) (s .second)) (c .before .point-at .ensures)
-    ∙ called-judged coarse (s .vertices .now) (s .known) (s .second) _ (start .pre .0 .0)
+    ∙ ap (calledOf (limitOf (s .grid)) (s .vertices .now) (s .known) (s .second)) (c .before .point-at .ensures)
+    ∙ called-judged (limitOf (s .grid)) (s .vertices .now) (s .known) (s .second) _ (start .pre .0 .0)
 
 mul-at : tie.Need-mul-at
 mul-at c = search needs
@@ -39,8 +40,8 @@ store-result-requires : tie.Need-store-result-requires
 store-result-requires c κs =
     let s = c .before .before .before .before .before in
     let i = s .args in
-    let accepted = from-accepted coarse (i .vertices .now) (i .known) (i .second) (s .pre .0 .0) _ in
-    (omega arith, rw (answered (c .before)) (answer-small coarse (i .vertices .now) _ accepted _ .place))
+    let accepted = from-accepted (limitOf (i .grid)) (i .vertices .now) (i .known) (i .second) (s .pre .0 .0) _ in
+    (omega arith, rw (answered (c .before)) (answer-small (limitOf (i .grid)) (i .vertices .now) _ accepted _ .place))
 
 same-length : tie.Need-same-length
 same-length c = search needs

@@ -9,46 +9,42 @@ use Rattle.judging.proofs.walk.next_run.Statement.{statement}
 use Rattle.judging.proofs.walk.next_run.Tie as tie
 
 abbrev Inv-loop : tie.InvT-loop
-Inv-loop boxes normal r runs skipped i₀ i = Scanning (isRun boxes normal skipped) r runs i
+Inv-loop boxes plane r runs skipped i₀ i = Scanning (isRun boxes (plane .normal) skipped) r runs i
 
 abbrev μ-loop : tie.MeasureT-loop
-μ-loop boxes normal r runs skipped i₀ i = runs - i
+μ-loop boxes plane r runs skipped i₀ i = runs - i
 
 loop-holds : tie.Need-loop-holds Inv-loop μ-loop
 loop-holds c = scan-start
 
-box-at-requires : tie.Need-box-at-requires Inv-loop μ-loop
-box-at-requires c κs = omega (arith, c .loop-test .taken, c .before .before .pre .1 .room)
-
-is-apart-requires : tie.Need-is-apart-requires Inv-loop μ-loop
-is-apart-requires c κs =
-    let l = c .before in
-    let pre = l .before .before .pre in
-    let b = pre .1 .each _ (l .loop-test .taken) in
-    (pre .0, rw (c .box-at .ensures) (b .0), rw (c .box-at .ensures) (b .1))
+is-run-apart-requires : tie.Need-is-run-apart-requires Inv-loop μ-loop
+is-run-apart-requires c κs =
+    let pre = c .before .before .pre in
+    ((pre .0, omega (arith, c .loop-test .taken, pre .1 .room)), pre .1 .each _ (c .loop-test .taken))
 
 -- What the test says of the run at hand.
-sought : (c : tie.After-is-apart Inv-loop μ-loop) {t : Bool} →
-    let l = c .before .before .before in
+sought : (c : tie.After-is-run-apart Inv-loop μ-loop) {t : Bool} →
+    let l = c .before .before in
     let s = l .before .args in
-    Bool·beq (c .is-apart .result) (s .skipped) ≡ t → isRun (s .boxes .now) (s .normal) (s .skipped) (l .loop .i) ≡ t
+    Bool·beq (c .is-run-apart .result) (s .skipped) ≡ t → isRun (s .boxes .now) (s .plane .normal) (s .skipped)
+    (l .loop .i) ≡ t
 unfolding isRun
-sought c e = rw (← c .before .box-at .ensures, ← c .is-apart .ensures) e
+sought c e = rw (← c .is-run-apart .ensures) e
 
 returns : tie.Need-returns Inv-loop μ-loop
 returns c =
-    let l = c .before .before .before in
+    let l = c .before .before in
     scan-hit (l .before .loop .inv) (l .loop-test .taken) (sought (c .before) (c .if1 .taken))
 
 add-i : tie.Need-add-i Inv-loop μ-loop
-add-i c = let l = c .before .before .before in omega (arith, l .loop-test .taken, l .before .before .pre .1 .few)
+add-i c = let l = c .before .before in omega (arith, l .loop-test .taken, l .before .before .pre .1 .few)
 
 loop-less : tie.Need-loop-less Inv-loop μ-loop
-loop-less c = omega (arith, c .before .before .before .loop-test .taken)
+loop-less c = omega (arith, c .before .before .loop-test .taken)
 
 loop-again : tie.Need-loop-again Inv-loop μ-loop
 loop-again c =
-    let l = c .before .before .before in
+    let l = c .before .before in
     scan-step (l .before .loop .inv) (l .loop-test .taken) (sought (c .before) (c .if1 .left))
 
 returns-2 : tie.Need-returns-2 Inv-loop μ-loop
@@ -61,8 +57,7 @@ next-run-spec =
     Inv-loop
     μ-loop
     loop-holds
-    box-at-requires
-    is-apart-requires
+    is-run-apart-requires
     returns
     add-i
     loop-less
