@@ -1,20 +1,36 @@
 //! Compiles the C contestants: an archive with the calls, and the program.
 
-use std::env;
 use std::process::Command;
+use std::{env, fs};
+
+/// The archive's objects; what goes by the grid is compiled for each.
+const OBJECTS: [(&str, &str, &[&str]); 5] = [
+    ("calls.o", "src/calls.c", &[]),
+    ("coarse_outline.o", "src/outline.c", &[]),
+    ("coarse_judge.o", "src/judge.c", &[]),
+    ("fine_outline.o", "src/outline.c", &["-DFINE"]),
+    ("fine_judge.o", "src/judge.c", &["-DFINE"]),
+];
+
+fn run(program: &str, words: &[&str]) {
+    let status = Command::new(program).args(words).status();
+    assert!(status.expect(program).success(), "{program} {words:?}");
+}
+
+fn cc(words: &[&str]) {
+    run("cc", &[&["-std=c11", "-O3", "-Wall", "-Wextra"], words].concat());
+}
 
 fn main() {
     let out = env::var("OUT_DIR").expect("OUT_DIR");
-    let run = |program: &str, words: &[&str]| {
-        let status = Command::new(program).args(words).status();
-        assert!(status.expect(program).success(), "{program} {words:?}");
-    };
-    let [outline, judge, archive, program] =
-        ["outline.o", "judge.o", "libjudge.a", "zone_judge"].map(|name| format!("{out}/{name}"));
-    let cc = |words: &[&str]| run("cc", &[&["-std=c11", "-O3", "-Wall", "-Wextra"], words].concat());
-    cc(&["-c", "src/outline.c", "-o", &outline]);
-    cc(&["-c", "src/judge.c", "-o", &judge]);
-    run("ar", &["rcs", &archive, &outline, &judge]);
+    let [archive, program] = ["libjudge.a", "zone_judge"].map(|name| format!("{out}/{name}"));
+    // An archive that is there would keep its other objects.
+    let _ = fs::remove_file(&archive);
+    for (name, source, words) in OBJECTS {
+        let object = format!("{out}/{name}");
+        cc(&[words, &["-c", source, "-o", &object]].concat());
+        run("ar", &["rcs", &archive, &object]);
+    }
     cc(&["src/zone_judge.c", &archive, "-o", &program]);
     println!("cargo:rustc-link-search=native={out}");
     println!("cargo:rustc-link-lib=static=judge");

@@ -3,7 +3,8 @@
  *
  *     importer SHEET STOPS
  *
- * SHEET is a zone sheet. STOPS is a text with one stop a line, its grid numbers and its name: `x y z name`.
+ * SHEET is a zone sheet, on either grid. STOPS is a text with one stop a line, its numbers on the sheet's grid and its
+ * name: `x y z name`.
  *
  * A stop belongs to the harbour if it is inside or on the boundary: such stops are printed on standard output, with
  * which of the two. What was refused, and why, goes to standard error: the sheet (then no stop is judged), or a stop.

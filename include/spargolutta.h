@@ -3,17 +3,23 @@
  *
  * The polygon comes as a zone sheet (bytes) and the query as three whole numbers. Five calls take the same arguments
  * and each fetches one part of the same answer: its number, its place, its count, its sum, the sides looked at. Three
- * more judge a feed, any number of queries to one sheet, and two choose a second known point for a sheet. All work is
- * in whole numbers, so no answer depends on rounding.
+ * more judge a feed, any number of queries to one sheet, and two choose a second known point for a sheet. All work on
+ * the coarse grid is in whole numbers. On the fine grid floats decide only where their sign is proved to be right, and
+ * whole numbers elsewhere: no answer depends on rounding.
  *
  *     cc client.c $(pkg-config --cflags --libs spargolutta)
  *
  * The calls are written in Rattle (crate spargolutta, functions of the same names) and proved to give the answers of
  * the table below for all bytes and all queries. Nothing checks the declarations of this file against that source.
  *
- * A point is a direction from the centre: x, y, z, each from -1,048,576 to 1,048,576 (the grid), not all zero. Side i
- * (edge i) is the shorter arc from vertex i to the next one, the last side goes back to vertex 0. The known point
- * (reference point) is inside by the sheet's own claim. All numbering starts at 0.
+ * A point is a direction from the centre: x, y, z, whole numbers of at most the grid's limit in size, not all zero. The
+ * coarse grid has the limit 1,048,576 (2^20), and a step of it is about six metres on the Earth: it does for harbours
+ * and coasts. The fine grid has the limit 67,108,864 (2^26), and a step of ten centimetres: take it where berths are to
+ * be told apart; calls on it take up to a third longer. A sheet says its grid by the tag of its vertices, for all its
+ * points. Queries and candidates are on their sheet's grid.
+ *
+ * Side i (edge i) is the shorter arc from vertex i to the next one; the last side goes back to vertex 0. The known
+ * point (reference point) is inside by the sheet's own claim. All numbering starts at 0.
  *
  * A side is border if the number of sides that join its two directions, whichever way they are walked, is odd. A
  * corridor to a hole or to another island, walked out and back, is none: a point on it is inside or outside.
@@ -26,13 +32,18 @@
  *     2    character set: 1 UTF-8, 2 ISO 8859-7, 3 windows-1253       1
  *     3    name, as received                                          1 to 120
  *     4    known point x, y, z                                        12
- *     5    vertices x, y, z                                           12 each: 36 to 49,152 (3 to 4,096 vertices)
+ *     5    vertices x, y, z, on the coarse grid                       12 each: 36 to 49,152 (3 to 4,096 vertices)
+ *     7    in place of tag 5: vertices on the fine grid               the same
  *     6    second known point x, y, z; the field may be missing       12
  *
  * From the known point alone, the query opposite to it cannot be judged: it gets 18. With a second known point it is
  * judged from that one, and 18 no longer occurs. The second point passes if it would do as a known point (neither 15
  * nor 16), is not of the known point's direction, and is inside as judged from the known point. spg_choose_number
- * finds one that does. A library from before tag 6 refuses a sheet that has it, with 24.
+ * finds one that does. A library from before tag 6 refuses a sheet that has it, with 24, and one from before tag 7
+ * refuses that with 21.
+ *
+ * Calls on a sheet with tag 7 need the default rounding mode of floats, to nearest (fesetround(FE_TONEAREST)), which a
+ * program has unless it sets another. Calls on a sheet with tag 5 work in any.
  */
 #ifndef SPARGOLUTTA_H
 #define SPARGOLUTTA_H
@@ -48,11 +59,11 @@ extern "C" {
  * The numbers. Place and count are 0 where the table names none.
  *
  * The lengths of a feed (26, 27) or of candidates (10) come first. A sheet is checked field by field: three head bytes
- * present (20), tag (21), length (22), body present (20), character set (23). A byte 6 after the vertices starts the
- * sixth field (20, 22), any other is 24, and so is any byte after the sixth. Then come 11 to 16, each over the whole
- * list before the next, and 19; then the query's 17 and 18. The first that holds is given. Here 10 is of candidates
- * alone: in a sheet 22 comes before it. 25 is of writing a sheet, and these calls never give it. 0, 10, 26 and 27 are
- * never a query's answer.
+ * present (20), tag (21; the fifth may be 5 or 7), length (22), body present (20), character set (23). A byte 6 after
+ * the vertices starts the sixth field (20, 22), any other is 24, and so is any byte after the sixth. Then come 11 to
+ * 16, each over the whole list before the next, and 19; then the query's 17 and 18. The first that holds is given.
+ * Here 10 is of candidates alone: in a sheet 22 comes before it. 25 is of writing a sheet and 28 of mixed grids, and
+ * these calls never give them. 0, 10, 26 and 27 are never a query's answer.
  */
 enum spg_number {
                                 /* meaning                                             place / count                  */
@@ -62,13 +73,13 @@ enum spg_number {
     SPG_OUTSIDE = 2,            /* outside                                             count: sides crossed           */
     SPG_BOUNDARY = 3,           /* on a border side                                    place: lowest such side        */
     SPG_BAD_LIST = 10,          /* a list not whole, or under 3 or over 4,096 vertices                                */
-    SPG_VERTEX_OFF_GRID = 11,   /* a vertex has a number beyond the grid               place: lowest such vertex      */
+    SPG_VERTEX_OFF_GRID = 11,   /* a vertex has a number beyond the sheet's grid       place: lowest such vertex      */
     SPG_VERTEX_ZERO = 12,       /* a vertex is all zero                                place: lowest such vertex      */
     SPG_SIDE_SAME = 13,         /* a side's ends have the same direction               place: lowest such side        */
     SPG_SIDE_OPPOSITE = 14,     /* a side's ends are opposite                          place: lowest such side        */
-    SPG_KNOWN_OFF_GRID = 15,    /* the known point is beyond the grid or all zero                                     */
+    SPG_KNOWN_OFF_GRID = 15,    /* the known point is beyond its grid or all zero                                     */
     SPG_KNOWN_ON_CIRCLE = 16,   /* the known point is on the great circle of a side    place: lowest such side        */
-    SPG_QUERY_OFF_GRID = 17,    /* the query is beyond the grid or all zero                                           */
+    SPG_QUERY_OFF_GRID = 17,    /* the query is beyond the sheet's grid or all zero                                   */
     SPG_QUERY_OPPOSITE = 18,    /* the query is opposite the only known point                                         */
     SPG_NO_SECOND = 19,         /* the second known point does not pass, or no candidate does                         */
     SPG_SHEET_CUT = 20,         /* the sheet is cut short                              place: where the field begins  */
@@ -85,8 +96,8 @@ enum spg_number {
  *
  * sheet, sheet_len  The sheet's bytes. Any bytes and any length will do: a bad sheet gets its refusal, an empty one
  *                   number 20, place 0. Not NULL, even where sheet_len is 0. Only these bytes are read.
- * x, y, z           The query. Any numbers will do: off the grid they give 17. As 17 comes after every check of the
- *                   sheet, the query 0, 0, 0 asks about the sheet alone: 17 says that it is good.
+ * x, y, z           The query, on the sheet's grid. Any numbers will do: off it they give 17. As 17 comes after every
+ *                   check of the sheet, the query 0, 0, 0 asks about the sheet alone: 17 says that it is good.
  * Result            A number of the table, its place, its count. With equal arguments the three belong together.
  *                   The point that judges is the known point or, if the sheet has a second one and the query is
  *                   opposite the first, the second.
@@ -127,8 +138,8 @@ uint32_t spg_judge_looked(const uint8_t *sheet, size_t sheet_len, int32_t x, int
  * spg_feed_number, spg_feed_place, spg_feed_count: any number of queries, one sheet. The sheet is checked once.
  *
  * sheet, sheet_len      As above: any bytes, any length.
- * queries, queries_len  The queries, 12 bytes each: x, y, z, signed 32-bit, big-endian, as in the sheet. Any bytes and
- *                       any length, none among them: a feed of no queries still checks the sheet.
+ * queries, queries_len  The queries, 12 bytes each: x, y, z, signed 32-bit, big-endian, as in the sheet and on its
+ *                       grid. Any bytes and any length, none among them: a feed of no queries still checks the sheet.
  * results, results_len  The result buffer, queries_len bytes or more. The calls for place and count take its length
  *                       alone.
  * Result                0, place 0, count 0 where the feed was judged; or 26, 27 or the sheet's refusal, once for the

@@ -11,9 +11,9 @@
  *
  * A line begins with number, place, count, sum and sides looked at; those that the calls do not give are 0.
  *
- * The parts of a case have their lengths before them (4 bytes, big-endian). All that is lent stands once right before a
- * page that may not be touched and once right behind one, on pages that can only be read while it is judged; but for
- * the result buffer: see feed_placed. Both places have to give the same answer.
+ * The parts of a case are rows of cases.h. All that is lent stands once right before a page that may not be touched and
+ * once right behind one, on pages that can only be read while it is judged; but for the result buffer: see feed_placed.
+ * Both places have to give the same answer.
  */
 #include "rooms.h"
 
@@ -33,11 +33,6 @@ struct judged {
     size_t place;
     int32_t sum;
 };
-
-static uint32_t word_at(const uint8_t *bytes)
-{
-    return (uint32_t)bytes[0] << 24 | (uint32_t)bytes[1] << 16 | (uint32_t)bytes[2] << 8 | bytes[3];
-}
 
 /* The first of the queries. */
 static void judge(struct judged *j)
@@ -75,18 +70,6 @@ static void *all_calls(void *argument)
     choose(argument);
     feed(argument);
     return NULL;
-}
-
-/* Reads bytes with their length before them; false at the end of the input. */
-static bool read_row(struct bytes *row)
-{
-    uint8_t word[4];
-    if (fread(word, 1, 4, stdin) == 0)
-        return false;
-    row->length = word_at(word);
-    require(row->length <= ROOM, "too long");
-    require(fread(row->at, 1, row->length, stdin) == row->length, "case cut short");
-    return true;
 }
 
 static bool read_feed(struct judged *j)

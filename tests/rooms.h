@@ -2,28 +2,11 @@
 #ifndef ROOMS_H
 #define ROOMS_H
 
-#include <stdbool.h>
-#include <stdint.h>
-#include <stdio.h>
-#include <stdlib.h>
+#include "cases.h"
+
 #include <string.h>
 #include <sys/mman.h>
 #include <unistd.h>
-
-#define ROOM (1 << 17)
-
-struct bytes {
-    uint8_t *at;
-    size_t length;
-};
-
-static void require(bool holds, const char *what)
-{
-    if (!holds) {
-        fprintf(stderr, "client: %s\n", what);
-        exit(1);
-    }
-}
 
 /* ROOM bytes between two pages that may not be touched. */
 static uint8_t *guarded_room(void)

@@ -1,9 +1,9 @@
 //! A feed call, from the bytes of a sheet and of the queries to those of the results.
 
 use crate::{plain_c, ratios};
-use spargolutta_tests::islands::{islands, queries, Extent, QUERIES, SIDES};
+use spargolutta_tests::islands::{islands_on, queries, Extent, QUERIES, SIDES};
 use spargolutta_tests::library;
-use spargolutta_tests::sheet::points_bytes;
+use spargolutta_tests::sheet::{points_bytes, Grid};
 use spargolutta_yardstick::{hoisted, literal};
 use std::time::Instant;
 
@@ -27,8 +27,8 @@ pub struct Work {
 }
 
 impl Work {
-    fn new(sides: usize, extent: Extent) -> Work {
-        let islands = islands(1, sides, extent);
+    fn new(grid: Grid, sides: usize, extent: Extent) -> Work {
+        let islands = islands_on(grid, 1, sides, extent);
         Work {
             name: format!("{sides} sides, {extent:?}"),
             sheet: islands.sheet(),
@@ -37,7 +37,7 @@ impl Work {
     }
 }
 
-pub fn works() -> Vec<Work> {
+pub fn works(grid: Grid) -> Vec<Work> {
     let works = [
         (64, Extent::Archipelago),
         (SIDES, Extent::Harbour),
@@ -45,7 +45,7 @@ pub fn works() -> Vec<Work> {
         (SIDES, Extent::World),
         (4_096, Extent::Archipelago),
     ];
-    works.map(|(sides, extent)| Work::new(sides, extent)).into()
+    works.map(|(sides, extent)| Work::new(grid, sides, extent)).into()
 }
 
 /// Milliseconds a feed for each contestant, each time into a cleared buffer; and what is in it last.
@@ -67,8 +67,12 @@ pub fn others() -> String {
     CONTESTANTS[1..].iter().map(|(name, _)| *name).collect::<Vec<_>>().join(", ")
 }
 
-pub fn compare(works: &[Work]) {
-    println!("A feed of {QUERIES} queries, least of {ROUNDS} rounds, ours to {}:", others());
+pub fn compare(grid: Grid, works: &[Work]) {
+    let on_grid = match grid {
+        Grid::Coarse => "",
+        Grid::Fine => " on the fine grid",
+    };
+    println!("A feed of {QUERIES} queries{on_grid}, least of {ROUNDS} rounds, ours to {}:", others());
     for work in works {
         let measured = measure(&CONTESTANTS.map(|(_, feed)| feed), work);
         assert!(measured.iter().all(|(_, results)| *results == measured[0].1), "the results differ");
@@ -88,7 +92,7 @@ fn single_calls(sheet: &[u8], queries: &[u8], results: &mut [u8]) -> u32 {
 }
 
 pub fn compare_single_calls() {
-    let work = Work::new(SIDES, Extent::Archipelago);
+    let work = Work::new(Grid::Coarse, SIDES, Extent::Archipelago);
     let measured = measure(&[library::feed_number, single_calls], &work);
     let [(feed, results), (single, numbers)] = &measured[..] else { unreachable!() };
     let number = |bytes: &[u8]| bytes.chunks(12).map(|result| result[..4].to_vec()).collect::<Vec<_>>();

@@ -1,4 +1,4 @@
-/* The hoisted reading of P2 in plain C: yardstick/src/hoisted.rs line by line, and P1's feed. */
+/* The hoisted reading of P2 in plain C: yardstick/src/on_grid/hoisted.rs line by line, and P1's feed. */
 #include "outline.h"
 
 /* P3: an odd number of edges joins the directions of a and b, whichever way they are walked. */
@@ -30,19 +30,19 @@ static answer verdict(const outline *o, point query)
     for (size_t first = 0; first < o->n; first += RUN) {
         if (one_side(&o->boxes[first / RUN], arc))
             continue;
-        int64_t s1 = dot(arc, o->ring[first]), s2;
+        turn s1 = dot(arc, o->ring[first]), s2;
         for (size_t i = first, end = run_end(o, first); i < end; i++, s1 = s2) {
             point a = o->ring[i], b = o->ring[i + 1];
             s2 = dot(arc, b);
             if ((s1 > 0 && s2 > 0) || (s1 < 0 && s2 < 0))
                 continue;
             vector normal = cross(a, b);
-            int64_t s4 = dot(normal, query);
+            turn s4 = dot(normal, query);
             if (s4 == 0 && within(a, b, normal, query) && border(o, a, b))
                 return (answer){3, i, 0};
             if ((s1 < 0) == (s2 < 0))
                 continue;
-            int64_t s3 = dot(normal, o->known);
+            turn s3 = dot(normal, o->known);
             crossed += s1 < 0 ? s3 > 0 && s4 < 0 : s3 < 0 && s4 > 0;
         }
     }
@@ -58,22 +58,22 @@ static answer judge(const outline *o, point query)
     return verdict(o, query);
 }
 
-answer c_judge(const uint8_t *sheet, size_t sheet_len, int32_t x, int32_t y, int32_t z)
+answer ON_GRID(judge)(const uint8_t *sheet, size_t sheet_len, int32_t x, int32_t y, int32_t z)
 {
     outline o;
-    answer refusal = open_sheet(sheet, sheet_len, &o);
+    answer refusal = ON_GRID(open)(sheet, sheet_len, &o);
     return refusal.number != 0 ? refusal : judge(&o, (point){x, y, z});
 }
 
-answer c_feed(const uint8_t *sheet, size_t sheet_len, const uint8_t *queries, size_t queries_len, uint8_t *results,
-              size_t results_len)
+answer ON_GRID(feed)(const uint8_t *sheet, size_t sheet_len, const uint8_t *queries, size_t queries_len,
+                     uint8_t *results, size_t results_len)
 {
     outline o;
     if (queries_len % 12 != 0)
         return refuse(26, 0);
     if (results_len < queries_len)
         return refuse(27, queries_len);
-    answer refusal = open_sheet(sheet, sheet_len, &o);
+    answer refusal = ON_GRID(open)(sheet, sheet_len, &o);
     if (refusal.number != 0)
         return refusal;
     for (size_t at = 0; at < queries_len; at += 12) {

@@ -1,4 +1,4 @@
-/* The C contestants' own answer, and the calls that give it: see judge.c. */
+/* The C contestants' own answer, and the calls that give it: on one grid, see judge.c; on the sheet's, see calls.c. */
 #include <stddef.h>
 #include <stdint.h>
 
@@ -8,6 +8,9 @@ typedef struct {
     uint32_t count;
 } answer;
 
-answer c_judge(const uint8_t *sheet, size_t sheet_len, int32_t x, int32_t y, int32_t z);
-answer c_feed(const uint8_t *sheet, size_t sheet_len, const uint8_t *queries, size_t queries_len, uint8_t *results,
-              size_t results_len);
+typedef answer judge_call(const uint8_t *sheet, size_t sheet_len, int32_t x, int32_t y, int32_t z);
+typedef answer feed_call(const uint8_t *sheet, size_t sheet_len, const uint8_t *queries, size_t queries_len,
+                         uint8_t *results, size_t results_len);
+
+judge_call coarse_judge, fine_judge, c_judge;
+feed_call coarse_feed, fine_feed, c_feed;

@@ -1,5 +1,5 @@
-//! The library against document 02's P2 in checked Rust and in C: one call, a feed, the program. The contestants take
-//! turns, and the least time of many rounds counts.
+//! The library against document 02's P2 in checked Rust and in C: one call, the program, a feed on each grid. The
+//! contestants take turns, and the least time of many rounds counts.
 //!
 //! Started with a folder and a contestant it makes one feed call: what `instructions` counts.
 
@@ -9,6 +9,7 @@ mod instructions;
 mod plain_c;
 mod program;
 
+use spargolutta_tests::sheet::Grid;
 use std::{env, fs};
 
 fn processor() -> String {
@@ -32,8 +33,11 @@ fn main() {
     println!("Ratios on {}.", processor());
     calls::compare();
     program::compare();
-    let works = feeds::works();
-    feeds::compare(&works);
+    let works = feeds::works(Grid::Coarse);
+    feeds::compare(Grid::Coarse, &works);
     feeds::compare_single_calls();
+    instructions::compare(&works);
+    let works = feeds::works(Grid::Fine);
+    feeds::compare(Grid::Fine, &works);
     instructions::compare(&works);
 }

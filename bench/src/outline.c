@@ -94,7 +94,7 @@ static answer fields(const uint8_t *sheet, size_t sheet_len, size_t body[6], siz
     for (uint8_t tag = 1; tag <= 5; tag++) {
         if (sheet_len - at < 3)
             return refuse(20, at);
-        if (sheet[at] != tag)
+        if (sheet[at] != (tag == 5 ? VERTICES : tag))
             return refuse(21, at);
         *length = (size_t)sheet[at + 1] << 8 | sheet[at + 2];
         if (!length_allowed(tag, *length))
@@ -109,7 +109,7 @@ static answer fields(const uint8_t *sheet, size_t sheet_len, size_t body[6], siz
     return at < sheet_len ? refuse(24, at) : refuse(0, 0);
 }
 
-answer open_sheet(const uint8_t *sheet, size_t sheet_len, outline *o)
+answer ON_GRID(open)(const uint8_t *sheet, size_t sheet_len, outline *o)
 {
     size_t body[6] = {0}, length = 0;
     answer refusal = fields(sheet, sheet_len, body, &length);

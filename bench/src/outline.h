@@ -35,4 +35,4 @@ static inline point point_at(const uint8_t *bytes)
 }
 
 /* Reads and checks the sheet and builds the boxes; number 0 if it is good. */
-answer open_sheet(const uint8_t *sheet, size_t sheet_len, outline *o);
+answer ON_GRID(open)(const uint8_t *sheet, size_t sheet_len, outline *o);

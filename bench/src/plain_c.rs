@@ -1,4 +1,4 @@
-//! The calls of judge.c, declared as in judge.h.
+//! The calls of calls.c, declared as in judge.h.
 
 use spargolutta_tests::Point;
 use spargolutta_yardstick::Answer;

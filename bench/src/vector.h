@@ -1,8 +1,9 @@
-/* Points and their products, as in yardstick/src/vector.rs. On the grid every product fits in 64 bits. */
+/*
+ * Points and their products, as in yardstick/src/on_grid/vector.rs. On both grids 64 bits hold a cross product, and a
+ * dot product of two points.
+ */
+#include "grid.h"
 #include <stdbool.h>
-#include <stdint.h>
-
-#define LIMIT 1048576
 
 typedef struct {
     int32_t x, y, z;
@@ -23,9 +24,16 @@ static inline vector cross(point p, point q)
     return (vector){a.y * b.z - a.z * b.y, a.z * b.x - a.x * b.z, a.x * b.y - a.y * b.x};
 }
 
-static inline int64_t dot(vector v, point p)
+/* v is a cross product. */
+static inline turn dot(vector v, point p)
 {
-    return v.x * p.x + v.y * p.y + v.z * p.z;
+    return (turn)v.x * p.x + (turn)v.y * p.y + (turn)v.z * p.z;
+}
+
+static inline int64_t point_dot(point p, point q)
+{
+    vector a = wide(p);
+    return a.x * q.x + a.y * q.y + a.z * q.z;
 }
 
 static inline bool far(int32_t k)
@@ -51,12 +59,12 @@ static inline bool parallel(point p, point q)
 
 static inline bool same(point a, point b)
 {
-    return parallel(a, b) && dot(wide(a), b) > 0;
+    return parallel(a, b) && point_dot(a, b) > 0;
 }
 
 static inline bool opposite(point a, point b)
 {
-    return parallel(a, b) && dot(wide(a), b) < 0;
+    return parallel(a, b) && point_dot(a, b) < 0;
 }
 
 /* Whether whole, part_a and part_b, all multiples of one vector, have no opposite signs; whole is not 0. */

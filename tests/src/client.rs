@@ -2,18 +2,18 @@
 
 use crate::compare::{expect, Tally};
 use crate::host::{command, output_of, repository, Folder};
-use crate::islands::{islands, queries, Extent};
-use crate::outlines::{sheet_and_queries, Source};
+use crate::islands::{islands_on, queries, Extent};
+use crate::outlines::{sheet_and_queries, Numbers::Within, Source};
 use crate::random::Random;
 use crate::second_point::stored;
-use crate::sheet::{point_bytes, points_bytes, Sheet};
+use crate::sheet::{point_bytes, points_bytes, Grid, Sheet, GRIDS};
 use crate::{damage, reference, Answer, Point, Single};
 use std::process::Command;
 
 const STRICT: [&str; 4] = ["-Wall", "-Wextra", "-Werror", "-pedantic"];
 
 /// The flags for the repository's own header and archive.
-fn flags() -> Vec<String> {
+pub fn flags() -> Vec<String> {
     let path = |name| repository(name).display().to_string();
     vec![
         format!("-I{}", path("include")),
@@ -62,13 +62,13 @@ pub fn row(bytes: &[u8]) -> Vec<u8> {
 }
 
 /// The client, built with the sanitizers.
-pub fn sanitized_client(folder: &Folder) -> Command {
+fn sanitized_client(folder: &Folder) -> Command {
     let sanitize = ["-D_GNU_SOURCE", "-O1", "-g", "-fsanitize=address,undefined"];
     compile(folder, "tests/client.c", &sanitize, &flags())
 }
 
 /// The five numbers that a line begins with.
-pub fn single_of(line: &str) -> Single {
+fn single_of(line: &str) -> Single {
     let words: Vec<i64> = line.split(' ').take(5).map(|word| word.parse().expect("number")).collect();
     let answer = Answer { number: words[0] as u32, place: words[1] as usize, count: words[2] as u32 };
     Single { answer, sum: words[3] as i32, looked: words[4] as u32 }
@@ -80,8 +80,8 @@ fn guard_pages() {
     let folder = Folder::new("pages");
     let mut cases = damage::all_cases();
     let random = &mut Random::new(82);
-    for sides in [33, 64, 4_096] {
-        let islands = islands(1, sides, Extent::Archipelago);
+    for (sides, grid) in [33, 64, 4_096].into_iter().flat_map(|sides| GRIDS.map(|grid| (sides, grid))) {
+        let islands = islands_on(grid, 1, sides, Extent::Archipelago);
         cases.extend(queries(2, &islands, 40).into_iter().map(|query| (islands.sheet(), query)));
         let (_, pair) = stored(random, &islands).expect("a second point");
         cases.extend([islands.known, islands.known.map(|k| -k)].map(|query| (pair.clone(), query)));
@@ -96,6 +96,11 @@ fn guard_pages() {
     println!("guard pages: {} sheets", cases.len());
 }
 
+/// Mostly small coordinates, so that all kinds of answers are common.
+fn any_source(random: &mut Random) -> Source {
+    Source(random.pick(&GRIDS), Within(random.pick(&[1, 2, 3, 4, 5, 1_048_576])))
+}
+
 /// Feeds whose queries and results stand at the very ends of pages: good sheets and damaged ones,
 /// queries that are whole and cut, buffers that are short, exact and long.
 #[test]
@@ -103,14 +108,14 @@ fn feed_guard_pages() {
     let folder = Folder::new("feed-pages");
     let random = &mut Random::new(80);
     let mut feeds = vec![];
-    for k in 0..3_000 {
-        let count = random.below(30);
-        let (sheet, queries) = sheet_and_queries(random, Source::Within(1 + k % 5), 12, count);
+    for _ in 0..3_000 {
+        let (source, count) = (any_source(random), random.below(30));
+        let (sheet, queries) = sheet_and_queries(random, source, 12, count);
         let mut queries = points_bytes(&queries);
         queries.truncate(queries.len().saturating_sub(random.pick(&[0, 0, 0, 0, 0, 0, 1, 11])));
         let room = (queries.len() + random.pick(&[0, 0, 0, 1, 5, 12, 5_000]))
             .saturating_sub(random.pick(&[0, 0, 0, 1]));
-        feeds.push((sheet, queries, vec![0xc3; room]));
+        feeds.push((sheet.bytes(), queries, vec![0xc3; room]));
     }
     for (sheet, query) in damage::all_cases().into_iter().step_by(50) {
         let queries = points_bytes(&vec![query; random.below(4)]);
@@ -133,6 +138,36 @@ fn feed_guard_pages() {
     tally.report("feeds, guard pages", 4_000, [0, 13, 16, 20, 21, 22, 26, 27]);
 }
 
+/// Candidates at the very ends of pages: of any number and cut, with good sheets and damaged ones.
+#[test]
+fn choose_guard_pages() {
+    let folder = Folder::new("choose-pages");
+    let random = &mut Random::new(81);
+    let mut cases: Vec<(Vec<u8>, Vec<u8>)> = vec![];
+    for _ in 0..3_000 {
+        let source = any_source(random);
+        let (sheet, _) = sheet_and_queries(random, source, 12, 0);
+        let candidates: Vec<Point> = (0..random.below(20)).map(|_| random.point(3)).collect();
+        let mut bytes = points_bytes(&candidates);
+        bytes.truncate(bytes.len().saturating_sub(random.pick(&[0, 0, 0, 0, 0, 0, 1, 11])));
+        cases.push((sheet.bytes(), bytes));
+    }
+    for (sheet, query) in damage::all_cases().into_iter().step_by(50) {
+        cases.push((sheet, points_bytes(&vec![query; random.below(4)])));
+    }
+    let input: Vec<u8> = cases.iter().flat_map(|(s, c)| [row(s), row(c)].concat()).collect();
+    let printed = output_of(sanitized_client(&folder).arg("choose"), &input);
+    assert_eq!(printed.lines().count(), cases.len());
+    let mut tally = Tally::default();
+    for (line, (sheet, candidates)) in printed.lines().zip(&cases) {
+        let expected = reference::choose(sheet, candidates);
+        let whole = Single { answer: expected, sum: 0, looked: 0 };
+        assert_eq!(single_of(line), whole, "{sheet:02x?} {candidates:02x?}");
+        tally.count(expected.number);
+    }
+    tally.report("candidates, guard pages", 4_000, [0, 10, 13, 16, 19, 20, 21, 22, 24]);
+}
+
 /// More than 2^32 bytes needed: the place is not cut to 32 bits.
 #[test]
 fn feed_place_is_not_cut() {
@@ -142,7 +177,8 @@ fn feed_place_is_not_cut() {
 }
 
 /// The header promises that a call needs less than 64 KiB of stack: measured inside, on the boundary, and
-/// from a second point.
+/// from a second point; on the fine grid with turns that floats leave to exact work, and with numbers so
+/// large that floats decide.
 #[test]
 fn stack() {
     let folder = Folder::new("stack");
@@ -152,12 +188,15 @@ fn stack() {
     let plain = Sheet::new([500, 1, 3], &vertices);
     let pair = plain.clone().with_second([501, 1, 3]);
     let cases = [(&plain, 1, [3, 2, 1]), (&plain, 3, vertices[4095]), (&pair, 1, [-500, -1, -3])];
-    for (sheet, number, query) in cases {
-        let (sheet, queries) = (sheet.bytes(), points_bytes(&[query; 100]));
-        assert_eq!(reference::judge(&sheet, query).number, number);
-        let case = [&sheet, &queries, &vec![0; queries.len()]].map(|bytes| row(bytes)).concat();
-        let needed: usize = output_of(&mut client, &case).trim().parse().expect("bytes");
-        println!("stack: {needed} bytes, those of starting a thread among them");
-        assert!(needed < 65_536);
+    for (grid, factor) in [(Grid::Coarse, 1), (Grid::Fine, 1), (Grid::Fine, 16_000)] {
+        for (sheet, number, query) in cases {
+            let (sheet, query) = (sheet.times(factor).on(grid).bytes(), query.map(|k| factor * k));
+            let queries = points_bytes(&[query; 100]);
+            assert_eq!(reference::judge(&sheet, query).number, number);
+            let case = [&sheet, &queries, &vec![0; queries.len()]].map(|bytes| row(bytes)).concat();
+            let needed: usize = output_of(&mut client, &case).trim().parse().expect("bytes");
+            println!("stack, {grid:?}: {needed} bytes, those of starting a thread among them");
+            assert!(needed < 65_536);
+        }
     }
 }

@@ -2,11 +2,12 @@
 //! calls. The result buffer stands between guard bytes, and every lent byte is compared.
 
 use crate::compare::Tally;
-use crate::islands::{islands, queries, Extent, SIDES};
-use crate::outlines::{sheet_and_queries, Source};
+use crate::islands::{islands_on, queries, Extent, SIDES};
+use crate::outlines::{sheet_and_queries, Numbers, Source};
 use crate::program::refused_sheets;
 use crate::random::Random;
-use crate::sheet::{octant, octant_pair, points_bytes};
+use crate::sheet::{octant, octant_pair, points_bytes, Grid, GRIDS};
+use crate::turns::near_feed;
 use crate::{damage, library, reference, Answer, Point};
 
 const DONE: Answer = Answer { number: 0, place: 0, count: 0 };
@@ -74,15 +75,14 @@ fn refused(sheet: &[u8], queries: &[u8], room: usize, number: u32, place: usize)
 
 /// Feeds of 0, 1, 2 and 10,000 queries, with a result buffer that is exact, long and one byte short.
 /// The first query is opposite the known point.
-#[test]
-fn feed_sizes() {
+fn compare_sizes(grid: Grid) {
     let random = &mut Random::new(50);
-    let world = islands(51, 64, Extent::World);
+    let world = islands_on(grid, 51, 64, Extent::World);
     let mut octants: Vec<Point> = (0..10_000).map(|_| random.point(3)).collect();
     let mut worlds = queries(52, &world, 10_000);
     (octants[0], worlds[0]) = ([-1, -1, -1], world.known.map(|k| -k));
-    let pair = (octant_pair().bytes(), octants.clone());
-    for (sheet, asked) in [(octant().bytes(), octants), pair, (world.sheet(), worlds)] {
+    let [plain, pair] = [octant(), octant_pair()].map(|sheet| (sheet.on(grid).bytes(), octants.clone()));
+    for (sheet, asked) in [plain, pair, (world.sheet(), worlds)] {
         for n in [0, 1, 2, 10_000] {
             for more in [0, 1, 11, 12, 1_000] {
                 assert_eq!(equals_single_calls(&sheet, &asked[..n], more).len(), n);
@@ -97,11 +97,17 @@ fn feed_sizes() {
     }
 }
 
+#[test]
+fn feed_sizes() {
+    GRIDS.into_iter().for_each(compare_sizes);
+}
+
 /// Queries that are not whole twelves give 26, whatever the room and the sheet.
 #[test]
 fn feed_not_whole() {
     let bytes = points_bytes(&[[3, 2, 1]; 1_000]);
-    for sheet in [octant().bytes(), vec![], octant().bytes()[..68].to_vec()] {
+    let fine = octant().on(Grid::Fine).bytes();
+    for sheet in [octant().bytes(), fine, vec![], octant().bytes()[..68].to_vec()] {
         for length in (1..60).chain(11_940..12_000).filter(|length| length % 12 != 0) {
             for room in [0, length - 1, length, length + 1, 12_000] {
                 refused(&sheet, &bytes[..length], room, 26, 0);
@@ -116,7 +122,7 @@ fn feed_refused_sheets() {
     let asked = [[3, 2, 1], [0, 0, 0], [-1, -1, -1]];
     let bytes = points_bytes(&asked);
     let mut numbers = vec![];
-    for sheet in [vec![vec![]], refused_sheets()].concat() {
+    for sheet in [vec![vec![]], GRIDS.map(refused_sheets).concat()].concat() {
         let single = library::judge(&sheet, asked[0]);
         for queries in [&bytes[..], &bytes[..12], &[]] {
             for more in [0, 1, 100] {
@@ -146,27 +152,45 @@ fn feed_damaged_sheets() {
     tally.report("feeds, damaged sheets", 50_000, [0, 11, 12, 13, 15, 16, 19, 20, 21, 22, 23, 24]);
 }
 
+/// Each query that is judged, or the feed's refusal.
+fn count_feed(tally: &mut Tally, sheet: &[u8], asked: &[Point], more: usize) {
+    if library::judge(sheet, [0; 3]).number == 17 {
+        equals_single_calls(sheet, asked, more).iter().for_each(|&number| tally.count(number));
+    } else {
+        feed(sheet, &points_bytes(asked), 12 * asked.len());
+    }
+}
+
 /// 200,000 queries from fixed seeds over many sheets: each number that a query can get.
-#[test]
-fn feed_many_queries() {
+fn compare_many(grid: Grid) {
     let mut tally = Tally::default();
-    let limits = [Source::Limits, Source::Within(1_000), Source::Within(1_048_576)];
-    let families = [1, 2, 3, 5, 9].map(Source::Within).into_iter().chain(limits);
-    for (seed, source) in families.enumerate() {
+    let large = [1_000, grid.limit()].map(Numbers::Within).into_iter().chain([Numbers::Limits]);
+    let families = [1, 2, 3, 5, 9].map(Numbers::Within).into_iter().chain(large);
+    for (seed, numbers) in families.enumerate() {
         let random = &mut Random::new(60 + seed as u64);
         for _ in 0..1_200 {
             let count = random.below(60);
-            let (sheet, asked) = sheet_and_queries(random, source, 12, count);
-            if library::judge(&sheet, [0; 3]).number == 17 {
-                let more = random.below(30);
-                equals_single_calls(&sheet, &asked, more).iter().for_each(|&number| tally.count(number));
-            } else {
-                feed(&sheet, &points_bytes(&asked), 12 * count);
-            }
+            let (sheet, asked) = sheet_and_queries(random, Source(grid, numbers), 12, count);
+            count_feed(&mut tally, &sheet.bytes(), &asked, random.below(30));
         }
     }
-    let large = islands(1, SIDES, Extent::Archipelago);
-    let numbers = equals_single_calls(&large.sheet(), &queries(70, &large, 1_000), 7);
-    numbers.into_iter().for_each(|number| tally.count(number));
-    tally.report("feeds, queries", 200_000, [1, 2, 3, 17, 18]);
+    let large = islands_on(grid, 1, SIDES, Extent::Archipelago);
+    count_feed(&mut tally, &large.sheet(), &queries(70, &large, 1_000), 7);
+    tally.report(&format!("feeds, queries, {grid:?}"), 200_000, [1, 2, 3, 17, 18]);
+}
+
+#[test]
+fn feed_many_queries() {
+    GRIDS.into_iter().for_each(compare_many);
+}
+
+/// Turns of 1, -1 and 0 on the fine grid.
+#[test]
+fn feed_near_queries() {
+    let (mut tally, random) = (Tally::default(), &mut Random::new(68));
+    for _ in 0..500 {
+        let (sheet, asked) = near_feed(random, 30);
+        count_feed(&mut tally, &sheet, &asked, 0);
+    }
+    tally.report("feeds, turns of 1, -1 and 0", 15_000, [1, 2, 3, 18]);
 }

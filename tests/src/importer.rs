@@ -1,9 +1,10 @@
 //! The example importer as a user gets it: the library installed, the importer compiled with what
 //! pkg-config says of it, and run.
 
+use crate::charts::fine;
 use crate::client::compile;
 use crate::host::{command, output_of, repository, run_in_pieces, Folder};
-use crate::sheet::{octant, octant_pair, Sheet};
+use crate::sheet::{octant, octant_pair, Grid, Sheet};
 use std::fs;
 use std::path::Path;
 use std::process::Command;
@@ -84,6 +85,22 @@ fn importer_stops() {
     importer.folder.write("stops", b"3 2 1 Lighthouse\r\n1 1 -1 Open sea");
     importer.import(&octant().bytes(), "stops", 0, "Lighthouse: inside\n", "");
     importer.import(&octant().bytes(), "missing", 2, "", "missing: No such file or directory\n");
+}
+
+/// Charts F1 to F3 as stops, and numbers at the fine grid's limit and past it.
+#[test]
+fn importer_fine_grid() {
+    let importer = Importer::new("importer-fine");
+    let stops: String =
+        (1..).zip(fine::QUERIES).map(|(k, [x, y, z])| format!("{x} {y} {z} Berth {k}\n")).collect();
+    importer.folder.write("stops", stops.as_bytes());
+    let belong = "Berth 1: inside\nBerth 3: boundary, side 0\n";
+    importer.import(&fine::triangle().bytes(), "stops", 0, belong, "");
+    importer.folder.write("stops", b"67108864 1 2 Pier\n67108865 1 2 Off the map\n");
+    let refused = |name: &str| format!("refused: {name}: query beyond the grid or all zero (17)\n");
+    let fine = octant().on(Grid::Fine).bytes();
+    importer.import(&fine, "stops", 1, "Pier: inside\n", &refused("Off the map"));
+    importer.import(&octant().bytes(), "stops", 1, "", &(refused("Pier") + &refused("Off the map")));
 }
 
 /// Sheets with document 01's lines 20, 22 and 24 and document 02's 19.

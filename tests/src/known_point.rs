@@ -1,21 +1,20 @@
-//! Demand 3 at the C boundary: which known point is used must not matter.
+//! Demand 3 at the C boundary, on each grid: which known point is used must not matter.
 
 use crate::library::judge;
 use crate::random::Random;
-use crate::sheet::Sheet;
+use crate::sheet::{Grid, Sheet, GRIDS};
 
 /// If the first point calls the second inside, both call every query alike; if outside, they call it
 /// inside and outside the other way round. Boundary stays boundary, with its place.
-#[test]
-fn known_point_does_not_matter() {
+fn compare(grid: Grid) {
     let random = &mut Random::new(30);
     let (mut alike, mut exchanged) = (0, 0);
     for _ in 0..20_000 {
-        let size = random.pick(&[1, 2, 3, 5, 1_048_576]);
+        let size = random.pick(&[1, 2, 3, 5, grid.limit()]);
         let n = 3 + random.below(6);
         let vertices: Vec<_> = (0..n).map(|_| random.point(size)).collect();
         let (x, y) = (random.point(size.max(4)), random.point(size.max(4)));
-        let (from_x, from_y) = (Sheet::new(x, &vertices).bytes(), Sheet::new(y, &vertices).bytes());
+        let [from_x, from_y] = [x, y].map(|known| Sheet::new(known, &vertices).on(grid).bytes());
         // A query of zeros is refused after every check of the sheet.
         if judge(&from_x, [0; 3]).number != 17 || judge(&from_y, [0; 3]).number != 17 {
             continue;
@@ -40,6 +39,11 @@ fn known_point_does_not_matter() {
             *(if called == 1 { &mut alike } else { &mut exchanged }) += 1;
         }
     }
-    println!("known points: {alike} verdicts alike, {exchanged} exchanged");
+    println!("known points, {grid:?}: {alike} verdicts alike, {exchanged} exchanged");
     assert!(alike > 100_000 && exchanged > 50_000);
+}
+
+#[test]
+fn known_point_does_not_matter() {
+    GRIDS.into_iter().for_each(compare);
 }

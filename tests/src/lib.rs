@@ -2,7 +2,8 @@
 //! 01 and 02.
 //!
 //! `reference` is that reading, `library` the calls under test. `random`, `sheet` and `islands` make
-//! the inputs, `host` runs programs; the benchmark uses these too. The other modules are the tests.
+//! the inputs, `host` runs programs; the benchmark uses these too. `outlines` and `turns` make inputs for
+//! tests alone: coincidences, and turns that floats get wrong. The other modules are the tests.
 
 pub mod host;
 pub mod islands;
@@ -22,6 +23,8 @@ mod damage;
 #[cfg(test)]
 mod feed;
 #[cfg(test)]
+mod grids;
+#[cfg(test)]
 mod importer;
 #[cfg(test)]
 mod known_point;
@@ -34,7 +37,11 @@ mod outlines;
 #[cfg(test)]
 mod program;
 #[cfg(test)]
+mod rounding;
+#[cfg(test)]
 mod second_point;
+#[cfg(test)]
+mod turns;
 #[cfg(test)]
 mod winding;
 #[cfg(test)]

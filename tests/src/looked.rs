@@ -3,12 +3,12 @@
 //! are among the charts.
 
 use crate::compare::Tally;
-use crate::islands::{islands, queries, Extent, EXTENTS, SIDES};
-use crate::outlines::{query, Source};
+use crate::islands::{islands_on, queries, Extent, EXTENTS, SIDES};
+use crate::outlines::{query, Numbers, Source};
 use crate::program::refused_sheets;
 use crate::random::Random;
-use crate::sheet::{field, point_bytes, Sheet};
-use crate::{library, Point, Single};
+use crate::sheet::{field, point_bytes, Grid, Sheet, GRIDS};
+use crate::{library, reference, Point, Single};
 use std::collections::BTreeSet;
 
 /// Comparisons, and what became of the runs in them.
@@ -46,13 +46,15 @@ impl Looks {
 
     /// These queries; then the known point's own direction (nothing is skipped), its opposite and queries
     /// off the grid (refused).
-    fn compare_all(&mut self, known: Point, vertices: &[Point], queries: &[Point]) {
-        let (sheet, sides) = (Sheet::new(known, vertices).bytes(), vertices.len());
+    fn compare_all(&mut self, sheet: &Sheet, queries: &[Point]) {
+        let &Sheet { grid, known, .. } = sheet;
+        let (sheet, sides) = (sheet.bytes(), sheet.vertices.len());
         for &query in queries {
             self.compare(&sheet, sides, query);
         }
         assert_eq!(self.compare(&sheet, sides, known), sides);
-        let beyond = [[0; 3], [1_048_577, 0, 0], [1, -1_048_577, 1], [i32::MIN; 3]];
+        let past = grid.limit() + 1;
+        let beyond = [[0; 3], [past, 0, 0], [1, -past, 1], [i32::MIN; 3]];
         for query in beyond.into_iter().chain([known.map(|k| -k)]) {
             assert_eq!(self.compare(&sheet, sides, query), 0);
         }
@@ -72,56 +74,61 @@ impl Looks {
 /// vertices, on sides and far away.
 #[test]
 fn looked_islands() {
-    let mut looks = Looks::default();
     let sizes = [(31, 9, 300), (32, 9, 300), (33, 9, 300), (64, 9, 300), (SIDES, 1, 400), (4_096, 1, 100)];
-    for extent in EXTENTS {
-        for (sides, outlines, count) in sizes {
+    for grid in GRIDS {
+        let mut looks = Looks::default();
+        for (extent, (sides, outlines, count)) in EXTENTS.into_iter().flat_map(|e| sizes.map(|s| (e, s))) {
             for seed in 0..outlines {
-                let islands = islands(seed, sides, extent);
-                looks.compare_all(islands.known, &islands.vertices, &queries(seed + 100, &islands, count));
+                let islands = islands_on(grid, seed, sides, extent);
+                let sheet = Sheet::new(islands.known, &islands.vertices).on(grid);
+                looks.compare_all(&sheet, &queries(seed + 100, &islands, count));
             }
         }
+        looks.report(&format!("looked at, islands, {grid:?}"), 30_000, &[1, 2, 3, 17, 18]);
     }
-    looks.report("looked at, islands", 30_000, &[1, 2, 3, 17, 18]);
 }
 
 /// Whether the sheet is good: a query of zeros is refused after every check of it.
-fn accepted(known: Point, vertices: &[Point]) -> bool {
-    library::number(&Sheet::new(known, vertices).bytes(), [0; 3]) == 17
+fn accepted(sheet: &Sheet) -> bool {
+    reference::judge(&sheet.bytes(), [0; 3]).number == 17
 }
 
 /// A known point and n vertices from -size to size, if chance makes an outline that accepts one. The
 /// vertices stand in blocks, each of two points in turn: boxes are small, sides repeat, and the plane
 /// often touches a box.
-fn huddled(random: &mut Random, size: i32, n: usize) -> Option<(Point, Vec<Point>)> {
+fn huddled(random: &mut Random, grid: Grid, size: i32, n: usize) -> Option<Sheet> {
     let mut vertices = vec![];
     while vertices.len() < n {
         let pair = [0; 2].map(|_| random.point(size));
         let block = random.pick(&[1, 2, 33, 64, 65]).min(n - vertices.len());
         vertices.extend(pair.iter().cycle().take(block));
     }
-    let known = (0..8).map(|_| random.point(size + 1)).find(|&known| accepted(known, &vertices))?;
-    Some((known, vertices))
+    (0..8).map(|_| Sheet::new(random.point(size + 1), &vertices).on(grid)).find(accepted)
 }
 
-#[test]
-fn looked_huddled() {
+fn compare_huddled(grid: Grid) {
     let mut looks = Looks::default();
     let random = &mut Random::new(110);
-    for size in [1, 2, 3, 9] {
+    for size in [1, 2, 3, 9, grid.limit() / 6] {
         let mut outlines = 0;
-        while outlines < 250 {
+        while outlines < 200 {
             let n = random.pick(&[31, 32, 33, 34, 63, 64, 65, 97, 150, 300]);
-            if let Some((known, vertices)) = huddled(random, size, n) {
-                let ask = |_| query(random, Source::Within(size), known, &vertices);
+            if let Some(sheet) = huddled(random, grid, size, n) {
+                let source = Source(grid, Numbers::Within(size));
+                let ask = |_| query(random, source, sheet.known, &sheet.vertices);
                 let queries: Vec<Point> = (0..40).map(ask).collect();
-                looks.compare_all(known, &vertices, &queries);
+                looks.compare_all(&sheet, &queries);
                 outlines += 1;
             }
         }
     }
-    looks.report("looked at, huddled", 40_000, &[1, 2, 3, 17, 18]);
+    looks.report(&format!("looked at, huddled, {grid:?}"), 40_000, &[1, 2, 3, 17, 18]);
     assert!(looks.none > 100);
+}
+
+#[test]
+fn looked_huddled() {
+    GRIDS.into_iter().for_each(compare_huddled);
 }
 
 /// With P4's second point the known point's opposite is judged as if there were no other point: the plane
@@ -130,15 +137,15 @@ fn looked_huddled() {
 fn looked_from_second_points() {
     let mut looks = Looks::default();
     let random = &mut Random::new(111);
-    for k in 0..2_000 {
+    for k in 0..3_000 {
         let (size, n) = ([2, 3, 9][k % 3], random.pick(&[31, 32, 33, 65, 97, 150]));
-        let Some((known, vertices)) = huddled(random, size, n) else { continue };
-        let (plain, far) = (Sheet::new(known, &vertices), known.map(|k| -k));
+        let Some(plain) = huddled(random, GRIDS[k % 2], size, n) else { continue };
+        let far = plain.known.map(|k| -k);
         for second in (0..20).map(|_| random.point(size + 1)) {
             if library::choose(&plain.bytes(), &point_bytes(second)).number == 0 {
                 let pair = plain.clone().with_second(second).bytes();
                 looks.compare(&pair, n, far);
-                let alone = Sheet::new(second, &vertices).bytes();
+                let alone = Sheet { known: second, ..plain.clone() }.bytes();
                 assert_eq!(library::single(&pair, far), library::single(&alone, far));
             }
         }
@@ -148,7 +155,8 @@ fn looked_from_second_points() {
 }
 
 /// Every box and every plane that coordinates from -1 to 1 can make: for each known point and each box the
-/// first triangle that spans the box and accepts the point, if there is one, and all queries.
+/// first triangle that spans the box and accepts the point, if there is one, and all queries. On the fine
+/// grid the same, and once more with numbers that are its limit.
 #[test]
 fn looked_boxes() {
     let mut tally = Tally::default();
@@ -159,28 +167,41 @@ fn looked_boxes() {
         let along = |k: usize| triangle.iter().map(move |vertex| vertex[k]);
         let spanned = [0, 1, 2].map(|k| (along(k).min(), along(k).max()));
         for &known in &points {
-            if !seen.contains(&(known, spanned)) && accepted(known, &triangle) {
-                seen.insert((known, spanned));
-                let sheet = Sheet::new(known, &triangle).bytes();
-                points.iter().for_each(|&query| assert!(tally.compare(&sheet, query).looked <= 3));
+            let sheet = Sheet::new(known, &triangle);
+            if seen.contains(&(known, spanned)) || !accepted(&sheet) {
+                continue;
+            }
+            seen.insert((known, spanned));
+            let fine = sheet.clone().on(Grid::Fine);
+            let (most, largest) = (Grid::Fine.limit(), fine.times(Grid::Fine.limit()));
+            let [sheet, fine, largest] = [sheet, fine, largest].map(|sheet| sheet.bytes());
+            for &query in &points {
+                let found = tally.compare(&sheet, query);
+                assert!(found.looked <= 3);
+                assert_eq!(tally.compare(&fine, query), found);
+                assert_eq!(tally.compare(&largest, query.map(|k| most * k)), found);
             }
         }
     }
-    tally.report("looked at, boxes", 50_000, [1, 2, 3, 17, 18]);
+    tally.report("looked at, boxes", 150_000, [1, 2, 3, 17, 18]);
 }
 
 /// No side of a refused sheet is looked at: the octant with one thing wrong, and a long outline cut, with a
 /// byte too many, with a damaged last vertex, and with second points that fail.
-#[test]
-fn looked_refused() {
-    let islands = islands(1, SIDES, Extent::World);
+fn compare_refused(grid: Grid) {
+    let islands = islands_on(grid, 1, SIDES, Extent::World);
     let long = islands.sheet();
     let (cut, more) = (long[..long.len() - 1].to_vec(), [&long[..], &[0]].concat());
     let beyond = [&long[..long.len() - 4], &i32::MAX.to_be_bytes()].concat();
     let [zero, same] = [[0; 3], islands.known].map(|p| [&long[..], &field(6, &point_bytes(p))].concat());
-    for sheet in [vec![vec![], cut, more, beyond, zero, same], refused_sheets()].concat() {
+    for sheet in [vec![vec![], cut, more, beyond, zero, same], refused_sheets(grid)].concat() {
         for query in [[3, 2, 1], [1, 1, 0], [0; 3]] {
             assert_eq!(Tally::default().compare(&sheet, query).looked, 0);
         }
     }
+}
+
+#[test]
+fn looked_refused() {
+    GRIDS.into_iter().for_each(compare_refused);
 }

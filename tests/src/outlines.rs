@@ -1,30 +1,40 @@
-//! Outlines and queries made so that coincidences are common, compared with the reference.
+//! Outlines and queries made so that coincidences are common, on either grid.
 
-use crate::compare::Tally;
 use crate::random::Random;
-use crate::sheet::{points_bytes, Sheet};
+use crate::sheet::{points_bytes, Grid, Sheet};
 use crate::{reference, Point};
 
-const LIMIT: i32 = 1_048_576;
+mod tests;
 
-/// Where a family of outlines takes its coordinates from.
+/// The grid of a family of outlines, and where it takes its coordinates from.
 #[derive(Clone, Copy)]
-pub enum Source {
+pub struct Source(pub Grid, pub Numbers);
+
+#[derive(Clone, Copy)]
+pub enum Numbers {
     /// From -n to n: small n, so that points often meet, lie on one line or are opposite.
     Within(i32),
+    /// The same, each point lengthened by a factor of its own, so that its numbers are large too.
+    Lengthened(i32),
     /// The limits, next to them, 0 and 1.
     Limits,
     /// The limits, just beyond them, and the ends of i32.
     Beyond,
 }
 
-fn point(random: &mut Random, source: Source) -> Point {
-    const LIMITS: [i32; 8] = [-LIMIT, 1 - LIMIT, -1, 0, 1, LIMIT - 1, LIMIT, LIMIT / 2];
-    const BEYOND: [i32; 6] = [-LIMIT, LIMIT, -LIMIT - 1, LIMIT + 1, i32::MIN, i32::MAX];
-    match source {
-        Source::Within(size) => random.point(size),
-        Source::Limits => [0; 3].map(|_| random.pick(&LIMITS)),
-        Source::Beyond => [0; 3].map(|_| random.pick(&BEYOND)),
+fn point(random: &mut Random, Source(grid, numbers): Source) -> Point {
+    let limit = grid.limit();
+    let limits = [-limit, 1 - limit, -1, 0, 1, limit - 1, limit, limit / 2];
+    let beyond = [-limit, limit, -limit - 1, limit + 1, i32::MIN, i32::MAX];
+    match numbers {
+        Numbers::Within(size) => random.point(size),
+        Numbers::Lengthened(size) => {
+            // Up to six times such a number is still on the grid, as `query` wants it.
+            let factor = random.between(1, limit / 6 / size);
+            random.point(size).map(|k| factor * k)
+        }
+        Numbers::Limits => [0; 3].map(|_| random.pick(&limits)),
+        Numbers::Beyond => [0; 3].map(|_| random.pick(&beyond)),
     }
 }
 
@@ -35,8 +45,8 @@ fn sum(a: i32, p: Point, b: i32, q: Point) -> Point {
 }
 
 /// Halves the point while it is beyond the grid and this leaves its direction as it is.
-fn shortened(mut p: Point) -> Point {
-    while p.iter().any(|k| !(-LIMIT..=LIMIT).contains(k)) && p.iter().all(|k| k % 2 == 0) {
+fn shortened(limit: i32, mut p: Point) -> Point {
+    while p.iter().any(|k| !(-limit..=limit).contains(k)) && p.iter().all(|k| k % 2 == 0) {
         p = p.map(|k| k / 2);
     }
     p
@@ -49,7 +59,7 @@ fn parallel(p: Point, q: Point) -> bool {
 
 /// Up to `n` points of which no two neighbours, the last and the first among them, have the same or
 /// opposite directions (unless the source has no such points at hand).
-fn ring(random: &mut Random, source: Source, n: usize) -> Vec<Point> {
+pub fn ring(random: &mut Random, source: Source, n: usize) -> Vec<Point> {
     let mut ring = vec![point(random, source)];
     while ring.len() < n {
         let mut next = point(random, source);
@@ -72,10 +82,10 @@ pub fn sheet_and_queries(
     source: Source,
     most: usize,
     count: usize,
-) -> (Vec<u8>, Vec<Point>) {
+) -> (Sheet, Vec<Point>) {
     let (mut sheet, queries) = plain_and_queries(random, source, most, count);
     sheet.second = second_point(random, source, &sheet);
-    (sheet.bytes(), queries)
+    (sheet, queries)
 }
 
 /// The same without a second point.
@@ -89,7 +99,7 @@ pub fn plain_and_queries(
     let known = known_point(random, source, &vertices);
     let mut queries: Vec<Point> = (0..count).map(|_| query(random, source, known, &vertices)).collect();
     queries.iter_mut().take(1).for_each(|first| *first = sum(-1, known, 0, known));
-    (Sheet::new(known, &vertices), queries)
+    (Sheet::new(known, &vertices).on(source.0), queries)
 }
 
 /// A ring as it is, walked out and back, walked twice, two rings joined by a corridor, or a ring
@@ -128,7 +138,7 @@ fn known_point(random: &mut Random, source: Source, vertices: &[Point]) -> Point
     }
     let mut known = point(random, source);
     for _ in 0..12 {
-        if reference::judge(&Sheet::new(known, vertices).bytes(), [0; 3]).number != 16 {
+        if reference::judge(&Sheet::new(known, vertices).on(source.0).bytes(), [0; 3]).number != 16 {
             break;
         }
         known = if random.once_in(2) { random.point(9) } else { point(random, source) };
@@ -154,7 +164,7 @@ pub fn query(random: &mut Random, source: Source, known: Point, vertices: &[Poin
     let i = random.below(vertices.len());
     let (a, b) = (vertices[i], vertices[(i + 1) % vertices.len()]);
     let (s, t) = (random.between(1, 3), random.between(1, 3));
-    shortened(match random.below(12) {
+    let query = match random.below(12) {
         // the known point's own direction, and its opposite
         0 => sum(s, known, 0, a),
         1 => sum(-s, known, 0, a),
@@ -170,80 +180,6 @@ pub fn query(random: &mut Random, source: Source, known: Point, vertices: &[Poin
         8 => sum(s, known, -t, a),
         9 => sum(-s, known, t, a),
         _ => point(random, source),
-    })
-}
-
-fn compare_family(tally: &mut Tally, seed: u64, source: Source, most: usize, outlines: usize) {
-    let random = &mut Random::new(seed);
-    for _ in 0..outlines {
-        let (sheet, queries) = sheet_and_queries(random, source, most, 20);
-        for query in queries {
-            tally.compare(&sheet, query);
-        }
-    }
-}
-
-#[test]
-fn small_coordinates() {
-    let mut tally = Tally::default();
-    for (seed, size) in [(1, 1), (2, 2), (3, 3), (4, 5), (5, 9)] {
-        compare_family(&mut tally, seed, Source::Within(size), 9, 5_000);
-    }
-    tally.report("small coordinates", 500_000, [1, 2, 3, 12, 13, 14, 15, 16, 17, 18, 19]);
-}
-
-#[test]
-fn large_coordinates() {
-    let mut tally = Tally::default();
-    compare_family(&mut tally, 6, Source::Limits, 9, 5_000);
-    // Up to six times such a number is still on the grid, as `query` wants it.
-    compare_family(&mut tally, 7, Source::Within(LIMIT / 6), 40, 3_000);
-    compare_family(&mut tally, 8, Source::Within(1_000), 200, 500);
-    tally.report("large coordinates", 150_000, [1, 2, 3, 11, 13, 14, 16, 17, 18]);
-}
-
-/// A good outline, known point and query, of which some number is replaced by one at or beyond the
-/// limit or an end of i32.
-#[test]
-fn limits() {
-    let mut tally = Tally::default();
-    let random = &mut Random::new(9);
-    for _ in 0..20_000 {
-        let n = 3 + random.below(4);
-        let mut vertices = ring(random, Source::Within(LIMIT), n);
-        let mut known = random.point(LIMIT);
-        let mut query = random.point(LIMIT);
-        for _ in 0..1 + random.below(2) {
-            let (i, k) = (random.below(vertices.len()), random.below(3));
-            let beyond = point(random, Source::Beyond)[0];
-            match random.below(4) {
-                0 => vertices[i] = random.pick(&[[0; 3], [beyond; 3], [0, 0, beyond]]),
-                1 => vertices[i][k] = beyond,
-                2 => known[k] = beyond,
-                _ => query[k] = beyond,
-            }
-        }
-        tally.compare(&Sheet::new(known, &vertices).bytes(), query);
-    }
-    tally.report("limits", 20_000, [1, 2, 11, 12, 15, 17]);
-}
-
-/// The smallest and the largest outlines that there may be, and those one vertex short or long.
-#[test]
-fn vertex_counts() {
-    let mut tally = Tally::default();
-    let random = &mut Random::new(10);
-    for n in [0, 1, 2, 3, 4, 4095, 4096, 4097, 5460] {
-        for _ in 0..20 {
-            let vertices = ring(random, Source::Within(LIMIT), n.max(1))[..n].to_vec();
-            let known = random.point(LIMIT);
-            let sheet = Sheet::new(known, &vertices).bytes();
-            for _ in 0..10 {
-                let (i, j) = (random.below(n.max(1)), random.below(2) as i32);
-                let query = *vertices.get(i).unwrap_or(&known);
-                tally.compare(&sheet, sum(j, query, 1 - j, random.point(LIMIT)));
-            }
-        }
-    }
-    tally.report("vertex counts", 1_800, [1, 2, 3, 22]);
+    };
+    shortened(source.0.limit(), query)
 }

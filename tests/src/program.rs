@@ -1,8 +1,10 @@
 //! The program zone_judge, on temporary folders, against the reference.
 
+use crate::charts::fine;
 use crate::host::{command, output_of, repository, run_in_pieces, Folder};
 use crate::random::Random;
-use crate::sheet::{octant, octant_pair, points_bytes, Sheet};
+use crate::sheet::{octant, octant_pair, points_bytes, Grid, Sheet, GRIDS};
+use crate::turns::near_feed;
 use crate::{reference, Point};
 use std::collections::BTreeSet;
 use std::fs::{self, File};
@@ -34,29 +36,30 @@ fn agrees(folder: &Folder, sheet: Option<&[u8]>, input: &[u8]) -> String {
 }
 
 /// A sheet for each refusal, the octant with one thing wrong, also with its second point.
-pub fn refused_sheets() -> Vec<Vec<u8>> {
-    [refused_plain_sheets(), vec![octant().with_second([0, 0, 0]).bytes()]].concat()
+pub fn refused_sheets(grid: Grid) -> Vec<Vec<u8>> {
+    [refused_plain_sheets(grid), vec![octant().on(grid).with_second([0, 0, 0]).bytes()]].concat()
 }
 
 /// Those without a second point.
-pub fn refused_plain_sheets() -> Vec<Vec<u8>> {
+pub fn refused_plain_sheets(grid: Grid) -> Vec<Vec<u8>> {
+    let octant = octant().on(grid);
     let change = |what: fn(&mut Sheet)| {
-        let mut sheet = octant();
+        let mut sheet = octant.clone();
         what(&mut sheet);
         sheet.bytes()
     };
     vec![
-        change(|sheet| sheet.vertices[2] = [0, 0, 1_048_577]),
+        change(|sheet| sheet.vertices[2] = [0, 0, sheet.grid.limit() + 1]),
         change(|sheet| sheet.vertices[1] = [0, 0, 0]),
         change(|sheet| sheet.vertices[1] = [2, 0, 0]),
         change(|sheet| sheet.vertices[1] = [0, 0, -5]),
         change(|sheet| sheet.known = [i32::MIN, 0, 0]),
         change(|sheet| sheet.known = [1, 0, 1]),
-        octant().bytes()[..68].to_vec(),
-        octant().bytes()[7..].to_vec(),
+        octant.bytes()[..68].to_vec(),
+        octant.bytes()[7..].to_vec(),
         change(|sheet| sheet.name = vec![0x41; 121]),
         change(|sheet| sheet.charset = 4),
-        [octant().bytes(), vec![0]].concat(),
+        [octant.bytes(), vec![0]].concat(),
     ]
 }
 
@@ -67,15 +70,36 @@ fn program_octant() {
     assert_eq!(printed, "1 0 0\n3 0 0\n2 0 1\n18 0 0\n");
 }
 
+/// Queries are on their sheet's grid: charts F1 to F3; a number past the coarse grid, and one past the fine grid.
+#[test]
+fn program_fine() {
+    let folder = Folder::new("fine");
+    let printed = agrees(&folder, Some(&fine::triangle().bytes()), &points_bytes(&fine::QUERIES));
+    assert_eq!(printed, "1 0 0\n2 0 1\n3 0 0\n");
+    let sheet = octant().on(Grid::Fine).bytes();
+    let printed = agrees(&folder, Some(&sheet), &points_bytes(&K2_K3_K5_K8));
+    assert_eq!(printed, "1 0 0\n3 0 0\n2 0 1\n18 0 0\n");
+    let far = points_bytes(&[[1_048_577, 1, 1], [67_108_864, 1, 1], [67_108_865, 1, 1]]);
+    assert_eq!(agrees(&folder, Some(&sheet), &far), "1 0 0\n1 0 0\n17 0 0\n");
+    assert_eq!(agrees(&folder, Some(&octant().bytes()), &far), "17 0 0\n".repeat(3));
+    let (random, mut lines) = (&mut Random::new(45), 0);
+    for _ in 0..20 {
+        let (sheet, asked) = near_feed(random, 40);
+        lines += agrees(&folder, Some(&sheet), &points_bytes(&asked)).lines().count();
+    }
+    assert!(lines > 500);
+}
+
 #[test]
 fn program_refusals() {
     let folder = Folder::new("refusals");
     let queries = points_bytes(&K2_K3_K5_K8);
-    for input in [&queries[..], &queries[..7], &[]] {
+    let inputs = [&queries[..], &queries[..7], &[]];
+    for (input, grid) in inputs.into_iter().flat_map(|input| GRIDS.map(|grid| (input, grid))) {
         assert_eq!(agrees(&folder, None, input), "20 0 0\n");
         assert_eq!(agrees(&folder, Some(&[]), input), "20 0 0\n");
         let mut numbers = BTreeSet::new();
-        for sheet in refused_sheets() {
+        for sheet in refused_sheets(grid) {
             let printed = agrees(&folder, Some(&sheet), input);
             numbers.insert(printed.split(' ').next().unwrap().parse::<u32>().unwrap());
         }
@@ -87,17 +111,18 @@ fn program_refusals() {
 #[test]
 fn program_second_point() {
     let folder = Folder::new("second");
-    let printed = agrees(&folder, Some(&octant_pair().bytes()), &points_bytes(&K2_K3_K5_K8));
-    assert_eq!(printed, "1 0 0\n3 0 0\n2 0 1\n2 0 1\n");
-    agrees(&folder, Some(&octant_pair().bytes()), &random_input(44, 2_000));
+    for grid in GRIDS {
+        let sheet = octant_pair().on(grid).bytes();
+        let printed = agrees(&folder, Some(&sheet), &points_bytes(&K2_K3_K5_K8));
+        assert_eq!(printed, "1 0 0\n3 0 0\n2 0 1\n2 0 1\n");
+        agrees(&folder, Some(&sheet), &random_input(44, 2_000));
+    }
 }
 
 /// The longest sheets without a second point and with one, and files that are longer: the program
 /// reads 49,320 bytes.
-#[test]
-fn program_long_files() {
-    let folder = Folder::new("long");
-    let mut sheet = octant();
+fn compare_long_files(folder: &Folder, grid: Grid) {
+    let mut sheet = octant().on(grid);
     sheet.name = vec![0x41; 120];
     sheet.vertices = (0..4096).map(|i| [(i % 2) * 7, 1, i + 1]).collect();
     sheet.known = [500, 1, 3];
@@ -108,19 +133,25 @@ fn program_long_files() {
     let longest = sheet.with_second(candidates[chosen.place]).bytes();
     assert_eq!((plain.len(), longest.len()), (49_304, 49_319));
     let input = [points_bytes(&[[-500, -1, -3]]), random_input(40, 49)].concat();
-    assert!(agrees(&folder, Some(&plain), &input).starts_with("18 0 0\n"));
-    assert!(!agrees(&folder, Some(&longest), &input).contains("18 0 0\n"));
+    assert!(agrees(folder, Some(&plain), &input).starts_with("18 0 0\n"));
+    assert!(!agrees(folder, Some(&longest), &input).contains("18 0 0\n"));
     for more in [1, 2, 1_000, 1_000_000] {
         for (whole, place) in [(&plain, 49_304), (&longest, 49_319)] {
             let long = [whole.clone(), vec![5; more]].concat();
-            assert_eq!(agrees(&folder, Some(&long), &input), format!("24 {place} 0\n"));
-            assert_eq!(agrees(&folder, Some(&long[4..]), &input), "21 0 0\n");
+            assert_eq!(agrees(folder, Some(&long), &input), format!("24 {place} 0\n"));
+            assert_eq!(agrees(folder, Some(&long[4..]), &input), "21 0 0\n");
         }
         let sixes = |whole: &Vec<u8>| [whole.clone(), vec![6; more]].concat();
         let cut = if more < 3 { 20 } else { 22 };
-        assert_eq!(agrees(&folder, Some(&sixes(&plain)), &input), format!("{cut} 49304 0\n"));
-        assert_eq!(agrees(&folder, Some(&sixes(&longest)), &input), "24 49319 0\n");
+        assert_eq!(agrees(folder, Some(&sixes(&plain)), &input), format!("{cut} 49304 0\n"));
+        assert_eq!(agrees(folder, Some(&sixes(&longest)), &input), "24 49319 0\n");
     }
+}
+
+#[test]
+fn program_long_files() {
+    let folder = Folder::new("long");
+    GRIDS.into_iter().for_each(|grid| compare_long_files(&folder, grid));
 }
 
 #[test]

@@ -8,7 +8,8 @@ mod requests;
 
 use crate::{Answer, Point};
 use fields::{fields, points, Zone};
-use geometry::{all_zero, beyond, crossing, on_side, opposite, same_direction, sides, turn, vector, Vector};
+use geometry::{all_zero, beyond, crossing, on_side, opposite, same_direction, sides, Vector};
+pub use geometry::{cross, turn, vector};
 pub use requests::{choose, feed, single};
 use requests::{judged, passes};
 
@@ -18,18 +19,18 @@ fn answer(number: u32, place: usize, count: u32) -> Answer {
     Answer { number, place, count }
 }
 
-/// Lines 10 to 16.
-fn outline_refusal(vertices: &[Vector], known: Vector) -> Option<Answer> {
+/// Lines 10 to 16, for this point as the known point.
+fn outline_refusal(zone: &Zone, known: Vector) -> Option<Answer> {
+    let &Zone { limit, ref vertices, .. } = zone;
     let sides = sides(vertices);
-    let vertex = |bad: fn(Vector) -> bool| vertices.iter().position(|&v| bad(v));
     let side = |bad: fn(Vector, Vector) -> bool| sides.iter().position(|&(a, b)| bad(a, b));
     if vertices.len() < 3 || vertices.len() > 4096 {
         return Some(answer(10, 0, 0));
     }
-    if let Some(i) = vertex(beyond) {
+    if let Some(i) = vertices.iter().position(|&v| beyond(limit, v)) {
         return Some(answer(11, i, 0));
     }
-    if let Some(i) = vertex(all_zero) {
+    if let Some(i) = vertices.iter().position(|&v| all_zero(v)) {
         return Some(answer(12, i, 0));
     }
     if let Some(i) = side(same_direction) {
@@ -38,7 +39,7 @@ fn outline_refusal(vertices: &[Vector], known: Vector) -> Option<Answer> {
     if let Some(i) = side(opposite) {
         return Some(answer(14, i, 0));
     }
-    if beyond(known) || all_zero(known) {
+    if beyond(limit, known) || all_zero(known) {
         return Some(answer(15, 0, 0));
     }
     if let Some(i) = sides.iter().position(|&(a, b)| turn(a, b, known) == 0) {
@@ -56,14 +57,14 @@ fn border(sides: &[(Vector, Vector)], (a, b): (Vector, Vector)) -> bool {
 }
 
 /// Lines 17, 18 and 1 to 3, for an outline and a known point that are not refused.
-fn verdict(vertices: &[Vector], known: Vector, query: Vector) -> Answer {
-    if beyond(query) || all_zero(query) {
+fn verdict(zone: &Zone, known: Vector, query: Vector) -> Answer {
+    if beyond(zone.limit, query) || all_zero(query) {
         return answer(17, 0, 0);
     }
     if opposite(known, query) {
         return answer(18, 0, 0);
     }
-    let sides = sides(vertices);
+    let sides = sides(&zone.vertices);
     if let Some(i) = sides.iter().position(|&side| on_side(side, query) && border(&sides, side)) {
         return answer(3, i, 0);
     }
@@ -76,7 +77,7 @@ fn verdict(vertices: &[Vector], known: Vector, query: Vector) -> Answer {
 /// A zone whose outline accepts its known point, or the refusal. A second point is not looked at.
 fn outline(sheet: &[u8]) -> Result<Zone, Answer> {
     let zone = fields(sheet)?;
-    match outline_refusal(&zone.vertices, zone.known) {
+    match outline_refusal(&zone, zone.known) {
         Some(refusal) => Err(refusal),
         None => Ok(zone),
     }

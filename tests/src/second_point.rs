@@ -1,13 +1,11 @@
 //! Document 02's P4: choosing a second known point, and what it changes.
 
-use crate::client::{row, sanitized_client, single_of};
 use crate::compare::Tally;
-use crate::host::{output_of, Folder};
-use crate::islands::{islands, queries, Extent, Islands, EXTENTS};
-use crate::outlines::{sheet_and_queries, Source};
+use crate::islands::{islands_on, queries, Extent, Islands, EXTENTS};
+use crate::outlines::{sheet_and_queries, Numbers::Within, Source};
 use crate::random::Random;
-use crate::sheet::{field, octant, octant_pair, point_bytes, points_bytes, Sheet};
-use crate::{damage, library, reference, Answer, Point, Single};
+use crate::sheet::{field, octant, octant_pair, point_bytes, points_bytes, Grid, Sheet, GRIDS};
+use crate::{library, reference, Answer, Point, Single};
 
 fn opposite(p: Point) -> Point {
     p.map(|k| -k)
@@ -27,13 +25,12 @@ fn chosen(number: u32, place: usize) -> Answer {
 }
 
 /// Worked out by hand. Passed over: all zero, beyond the grid, the known point's direction, its
-/// opposite, on the great circle of a side, outside.
-#[test]
-fn chosen_of_the_octant() {
-    let sheet = octant().bytes();
+/// opposite, on the great circle of a side, outside. At the grid's limit a point may pass.
+fn compare_octant(grid: Grid) {
+    let (sheet, limit) = (octant().on(grid).bytes(), grid.limit());
     let over = [
         [0, 0, 0],
-        [1_048_577, 1, 1],
+        [limit + 1, 1, 1],
         [i32::MIN; 3],
         [2, 2, 2],
         [-1, -1, -1],
@@ -43,8 +40,10 @@ fn chosen_of_the_octant() {
     ];
     assert_eq!(choose(&sheet, &points_bytes(&over)), chosen(19, 0));
     for n in 0..=over.len() {
-        let list = [&over[..n], &[[1, 1, 2], [3, 2, 1]], &over[n..]].concat();
-        assert_eq!(choose(&sheet, &points_bytes(&list)), chosen(0, n));
+        for passes in [[1, 1, 2], [limit, 1, limit - 1]] {
+            let list = [&over[..n], &[passes, [3, 2, 1]], &over[n..]].concat();
+            assert_eq!(choose(&sheet, &points_bytes(&list)), chosen(0, n));
+        }
     }
     let bytes = points_bytes(&[[1, 1, 2]]);
     for length in [1, 4, 11] {
@@ -53,6 +52,11 @@ fn chosen_of_the_octant() {
     }
     assert_eq!(choose(&[], &bytes), chosen(20, 0));
     assert_eq!(choose(&sheet, &[]), chosen(19, 0));
+}
+
+#[test]
+fn chosen_of_the_octant() {
+    GRIDS.into_iter().for_each(compare_octant);
 }
 
 /// A second point that the sheet has already: its bytes are checked, and its point is not.
@@ -70,16 +74,16 @@ fn chosen_beside_another() {
     assert_eq!(choose(&Sheet { known: [1, 1, 0], ..octant_pair() }.bytes(), &candidates), chosen(16, 0));
 }
 
-/// Tag 6, worked out by hand: good, cut, doubled, before tag 5, with another length; points that fail.
-/// The good one's answer is of three sides looked at and side 1 crossed, by the second pattern.
-#[test]
-fn tag_6() {
+/// Tag 6, worked out by hand: good, cut, doubled, before the vertices, with another length; points that
+/// fail. The good one's answer is of three sides looked at and side 1 crossed, by the second pattern.
+fn compare_tag_6(grid: Grid) {
     let judge = |sheet: &[u8]| {
         let Single { answer, sum, looked } = Tally::default().compare(sheet, [-1, -1, -1]);
         assert_eq!((sum, looked), if answer.number == 2 { (-1, 3) } else { (0, 0) });
         (answer.number, answer.place, answer.count)
     };
-    let (plain, sheet) = (octant().bytes(), octant_pair().bytes());
+    let octant = || octant().on(grid);
+    let (plain, sheet) = (octant().bytes(), octant_pair().on(grid).bytes());
     let sixth = &sheet[69..];
     assert_eq!(judge(&plain), (18, 0, 0));
     assert_eq!(judge(&sheet), (2, 0, 1));
@@ -88,43 +92,53 @@ fn tag_6() {
     }
     for next in 0..=255 {
         assert_eq!(judge(&[&sheet[..], &[next]].concat()), (24, 84, 0));
-        let after_five = if next == 6 { (20, 69, 0) } else { (24, 69, 0) };
-        assert_eq!(judge(&[&plain[..], &[next]].concat()), after_five);
+        let after_vertices = if next == 6 { (20, 69, 0) } else { (24, 69, 0) };
+        assert_eq!(judge(&[&plain[..], &[next]].concat()), after_vertices);
     }
     assert_eq!(judge(&[&sheet[..], sixth].concat()), (24, 84, 0));
     assert_eq!(judge(&[&plain[..30], sixth, &plain[30..]].concat()), (21, 30, 0));
     for length in [0, 4, 11, 13, 24, 36] {
         assert_eq!(judge(&[&plain[..], &field(6, &vec![1; length])].concat()), (22, 69, 0));
     }
-    for second in [[0, 0, 0], [2, 2, 2], [-1, -1, -1], [1, 1, 0], [1, 1, -1], [1, 1, 1_048_577]] {
+    for second in [[0, 0, 0], [2, 2, 2], [-1, -1, -1], [1, 1, 0], [1, 1, -1], [1, 1, grid.limit() + 1]] {
         assert_eq!(judge(&octant().with_second(second).bytes()), (19, 0, 0));
         assert_eq!(judge(&Sheet { known: [1, 0, 1], ..octant().with_second(second) }.bytes()), (16, 2, 0));
     }
 }
 
-/// Lists of 0, 1 and 1,000 candidates, many of which fail, to many sheets, some of them refused.
 #[test]
-fn candidate_lists() {
+fn tag_6() {
+    GRIDS.into_iter().for_each(compare_tag_6);
+}
+
+/// Lists of 0, 1 and 1,000 candidates, many of which fail, to many sheets, some of them refused.
+fn compare_lists(grid: Grid) {
     let mut tally = Tally::default();
-    let random = &mut Random::new(90);
+    let (random, limit) = (&mut Random::new(90), grid.limit());
     for k in 0..6_000 {
-        let size = random.pick(&[1, 2, 3, 9, 1_048_576]);
-        let (sheet, _) = sheet_and_queries(random, Source::Within(size), 9, 0);
+        let size = random.pick(&[1, 2, 3, 9, limit]);
+        let (sheet, _) = sheet_and_queries(random, Source(grid, Within(size)), 9, 0);
         let count = [0, 1, 1_000][k % 3];
         let near = random.once_in(2);
         let candidates: Vec<Point> =
-            (0..count).map(|_| random.point(if near { size } else { 1_048_580 })).collect();
-        tally.count(choose(&sheet, &points_bytes(&candidates)).number);
+            (0..count).map(|_| random.point(if near { size } else { limit + limit / 9 })).collect();
+        tally.count(choose(&sheet.bytes(), &points_bytes(&candidates)).number);
     }
-    let large = islands(91, 500, Extent::World);
+    let large = islands_on(grid, 91, 500, Extent::World);
     let last = queries(92, &large, 1_000);
     tally.count(choose(&large.sheet(), &points_bytes(&last)).number);
-    tally.report("candidates", 6_000, [0, 13, 14, 16, 19]);
+    tally.report(&format!("candidates, {grid:?}"), 6_000, [0, 13, 14, 16, 19]);
+}
+
+#[test]
+fn candidate_lists() {
+    GRIDS.into_iter().for_each(compare_lists);
 }
 
 /// A point near the coast that passes as a second one, and the sheet with it.
 pub fn stored(random: &mut Random, isles: &Islands) -> Option<(Point, Vec<u8>)> {
-    let mut near = |p: Point| p.map(|c| (c + random.between(-40, 40)).clamp(-1_048_576, 1_048_576));
+    let limit = isles.grid.limit();
+    let mut near = |p: Point| p.map(|c| (c + random.between(-40, 40)).clamp(-limit, limit));
     let candidates: Vec<Point> = isles.vertices.iter().map(|&vertex| near(vertex)).collect();
     let choice = choose(&isles.sheet(), &points_bytes(&candidates));
     let second = (choice.number == 0).then(|| candidates[choice.place])?;
@@ -133,13 +147,12 @@ pub fn stored(random: &mut Random, isles: &Islands) -> Option<(Point, Vec<u8>)> 
 
 /// A candidate that is chosen makes a good sheet: the query opposite the known point is judged as if the
 /// chosen point were the only one, in a feed as by the single call, and every other query as before.
-#[test]
-fn chosen_and_stored() {
+fn compare_stored(grid: Grid) {
     let random = &mut Random::new(93);
     let mut tally = Tally::default();
     let (mut outside, mut skipped) = (0, 0);
     for k in 0..40 {
-        let isles = islands(94 + k, 24 + 40 * (k as usize % 8), EXTENTS[k as usize % 3]);
+        let isles = islands_on(grid, 94 + k, 24 + 40 * (k as usize % 8), EXTENTS[k as usize % 3]);
         let sheet = isles.sheet();
         let (second, pair) = stored(random, &isles).expect("a second point");
         let far = opposite(isles.known);
@@ -155,29 +168,33 @@ fn chosen_and_stored() {
             assert!(in_feed != 18 && (before.answer.number == 18 || before == after), "{query:?}");
         }
         assert_eq!(library::number(&sheet, far), 18);
-        let from_second = library::single(&Sheet::new(second, &isles.vertices).bytes(), far);
+        let from_second = library::single(&Sheet::new(second, &isles.vertices).on(grid).bytes(), far);
         assert_eq!(library::single(&pair, far), from_second);
         outside += u32::from(from_second.answer.number == 2);
         skipped += u32::from((from_second.looked as usize) < isles.vertices.len());
     }
-    tally.report("second points", 8_000, [1, 2, 3]);
+    tally.report(&format!("second points, {grid:?}"), 8_000, [1, 2, 3]);
     println!(
         "second points: 40, the opposite point is outside for {outside}, a run is skipped for {skipped}"
     );
     assert!(outside >= 20 && skipped >= 10);
 }
 
-/// Demand 3 of a pair: the point that is used instead, alone or with a second one, replaces both.
 #[test]
-fn pair_does_not_matter() {
+fn chosen_and_stored() {
+    GRIDS.into_iter().for_each(compare_stored);
+}
+
+/// Demand 3 of a pair: the point that is used instead, alone or with a second one, replaces both.
+fn compare_pairs(grid: Grid) {
     let random = &mut Random::new(96);
     let mut tally = Tally::default();
     let (mut alike, mut exchanged) = (0, 0);
     for _ in 0..20_000 {
-        let size = random.pick(&[1, 2, 3, 5, 1_048_576]);
+        let size = random.pick(&[1, 2, 3, 5, grid.limit()]);
         let n = 3 + random.below(6);
         let vertices: Vec<Point> = (0..n).map(|_| random.point(size)).collect();
-        let mut sheets = [0; 2].map(|_| Sheet::new(random.point(size.max(4)), &vertices));
+        let mut sheets = [0; 2].map(|_| Sheet::new(random.point(size.max(4)), &vertices).on(grid));
         for sheet in &mut sheets {
             let candidates: Vec<Point> = (0..8).map(|_| random.point(size.max(4))).collect();
             let choice = reference::choose(&sheet.bytes(), &points_bytes(&candidates));
@@ -204,36 +221,12 @@ fn pair_does_not_matter() {
             *(if called == 1 { &mut alike } else { &mut exchanged }) += 1;
         }
     }
-    tally.report("pairs", 20_000, [1, 2, 3]);
-    println!("pairs: {alike} verdicts alike, {exchanged} exchanged");
+    tally.report(&format!("pairs, {grid:?}"), 20_000, [1, 2, 3]);
+    println!("pairs, {grid:?}: {alike} verdicts alike, {exchanged} exchanged");
     assert!(alike > 5_000 && exchanged > 2_000);
 }
 
-/// Candidates at the very ends of pages: of any number and cut, with good sheets and damaged ones.
 #[test]
-fn choose_guard_pages() {
-    let folder = Folder::new("choose-pages");
-    let random = &mut Random::new(81);
-    let mut cases: Vec<(Vec<u8>, Vec<u8>)> = vec![];
-    for k in 0..3_000 {
-        let (sheet, _) = sheet_and_queries(random, Source::Within(1 + k % 5), 12, 0);
-        let candidates: Vec<Point> = (0..random.below(20)).map(|_| random.point(3)).collect();
-        let mut bytes = points_bytes(&candidates);
-        bytes.truncate(bytes.len().saturating_sub(random.pick(&[0, 0, 0, 0, 0, 0, 1, 11])));
-        cases.push((sheet, bytes));
-    }
-    for (sheet, query) in damage::all_cases().into_iter().step_by(50) {
-        cases.push((sheet, points_bytes(&vec![query; random.below(4)])));
-    }
-    let input: Vec<u8> = cases.iter().flat_map(|(s, c)| [row(s), row(c)].concat()).collect();
-    let printed = output_of(sanitized_client(&folder).arg("choose"), &input);
-    assert_eq!(printed.lines().count(), cases.len());
-    let mut tally = Tally::default();
-    for (line, (sheet, candidates)) in printed.lines().zip(&cases) {
-        let expected = reference::choose(sheet, candidates);
-        let whole = Single { answer: expected, sum: 0, looked: 0 };
-        assert_eq!(single_of(line), whole, "{sheet:02x?} {candidates:02x?}");
-        tally.count(expected.number);
-    }
-    tally.report("candidates, guard pages", 4_000, [0, 10, 13, 16, 19, 20, 21, 22, 24]);
+fn pair_does_not_matter() {
+    GRIDS.into_iter().for_each(compare_pairs);
 }

@@ -2,8 +2,36 @@
 
 use crate::Point;
 
+/// Document 02, P8: the grid of a sheet's points.
+#[derive(Clone, Copy, Debug, PartialEq, Eq)]
+pub enum Grid {
+    Coarse,
+    Fine,
+}
+
+pub const GRIDS: [Grid; 2] = [Grid::Coarse, Grid::Fine];
+
+impl Grid {
+    /// The largest number of a point.
+    pub const fn limit(self) -> i32 {
+        match self {
+            Grid::Coarse => 1_048_576,
+            Grid::Fine => 67_108_864,
+        }
+    }
+
+    /// The tag of the vertices.
+    pub fn tag(self) -> u8 {
+        match self {
+            Grid::Coarse => 5,
+            Grid::Fine => 7,
+        }
+    }
+}
+
 #[derive(Clone)]
 pub struct Sheet {
+    pub grid: Grid,
     pub zone: u32,
     pub charset: u8,
     pub name: Vec<u8>,
@@ -14,14 +42,25 @@ pub struct Sheet {
 }
 
 impl Sheet {
-    /// Zone 7, UTF-8, name "A": what document 01 gives its octant. No second point.
+    /// Zone 7, UTF-8, name "A": what document 01 gives its octant. On the coarse grid, no second point.
     pub fn new(known: Point, vertices: &[Point]) -> Sheet {
         let (name, vertices) = (b"A".to_vec(), vertices.to_vec());
-        Sheet { zone: 7, charset: 1, name, known, vertices, second: None }
+        Sheet { grid: Grid::Coarse, zone: 7, charset: 1, name, known, vertices, second: None }
+    }
+
+    pub fn on(self, grid: Grid) -> Sheet {
+        Sheet { grid, ..self }
     }
 
     pub fn with_second(self, second: Point) -> Sheet {
         Sheet { second: Some(second), ..self }
+    }
+
+    /// The same directions, in numbers this many times as large.
+    pub fn times(&self, factor: i32) -> Sheet {
+        let longer = |p: Point| p.map(|k| factor * k);
+        let (known, vertices) = (longer(self.known), self.vertices.iter().copied().map(longer).collect());
+        Sheet { known, vertices, second: self.second.map(longer), ..self.clone() }
     }
 
     /// The fields, each still on its own: five, or six with a second point.
@@ -31,7 +70,7 @@ impl Sheet {
             field(2, &[self.charset]),
             field(3, &self.name),
             field(4, &point_bytes(self.known)),
-            field(5, &points_bytes(&self.vertices)),
+            field(self.grid.tag(), &points_bytes(&self.vertices)),
         ];
         fields.extend(self.second.map(|second| field(6, &point_bytes(second))));
         fields

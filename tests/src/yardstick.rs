@@ -2,12 +2,13 @@
 //! known point.
 
 use crate::compare::Tally;
-use crate::islands::{islands, queries, EXTENTS, QUERIES, SIDES};
+use crate::islands::{islands_on, queries, EXTENTS, QUERIES, SIDES};
 use crate::library;
-use crate::outlines::{plain_and_queries, Source};
+use crate::outlines::{plain_and_queries, Numbers, Source};
 use crate::program::refused_plain_sheets;
 use crate::random::Random;
-use crate::sheet::{octant, points_bytes};
+use crate::sheet::{octant, points_bytes, Grid, GRIDS};
+use crate::turns::near_feed;
 use spargolutta_yardstick::{hoisted, literal, Answer};
 
 type Feed = fn(&[u8], &[u8], &mut [u8]) -> Answer;
@@ -42,23 +43,22 @@ fn compare(tally: &mut Tally, sheet: &[u8], queries: &[u8]) {
 /// The work of the benchmark.
 #[test]
 fn islands_alike() {
-    let mut tally = Tally::default();
-    for extent in EXTENTS {
-        for sides in [64, 1_024, SIDES, 4_096] {
-            let islands = islands(1, sides, extent);
+    for grid in GRIDS {
+        let mut tally = Tally::default();
+        for (extent, sides) in EXTENTS.into_iter().flat_map(|e| [64, 1_024, SIDES, 4_096].map(|n| (e, n))) {
+            let islands = islands_on(grid, 1, sides, extent);
             compare(&mut tally, &islands.sheet(), &points_bytes(&queries(2, &islands, QUERIES)));
         }
+        tally.report(&format!("yardsticks, islands, {grid:?}"), 12 * QUERIES as u64, [1, 2, 3, 18]);
     }
-    tally.report("yardsticks, islands", 12 * QUERIES as u64, [1, 2, 3, 18]);
 }
 
 /// Outlines and queries that meet, lie on one line or have one direction.
-#[test]
-fn coincidences_alike() {
+fn coincidences_alike_on(grid: Grid) {
     let mut tally = Tally::default();
-    let families = [1, 2, 3, 5, 9, 1_048_576].map(Source::Within).into_iter().chain([Source::Limits]);
-    for (seed, source) in families.enumerate() {
-        let random = &mut Random::new(90 + seed as u64);
+    let families = [1, 2, 3, 5, 9, grid.limit()].map(Numbers::Within).into_iter().chain([Numbers::Limits]);
+    for (seed, numbers) in families.enumerate() {
+        let (random, source) = (&mut Random::new(90 + seed as u64), Source(grid, numbers));
         for most in (0..1_000).map(|k| if k % 50 == 0 { 200 } else { 12 }) {
             let (sheet, asked) = plain_and_queries(random, source, most, 40);
             let (sheet, queries) = (sheet.bytes(), points_bytes(&asked));
@@ -69,13 +69,32 @@ fn coincidences_alike() {
             }
         }
     }
-    tally.report("yardsticks, coincidences", 100_000, [1, 2, 3, 17, 18]);
+    tally.report(&format!("yardsticks, coincidences, {grid:?}"), 100_000, [1, 2, 3, 17, 18]);
+}
+
+#[test]
+fn coincidences_alike() {
+    GRIDS.into_iter().for_each(coincidences_alike_on);
+}
+
+/// Turns of 1, -1 and 0 on the fine grid.
+#[test]
+fn near_turns_alike() {
+    let (mut tally, random) = (Tally::default(), &mut Random::new(97));
+    for _ in 0..300 {
+        let (sheet, asked) = near_feed(random, 40);
+        if library::number(&sheet, [0; 3]) == 17 {
+            compare(&mut tally, &sheet, &points_bytes(&asked));
+        }
+    }
+    tally.report("yardsticks, turns of 1, -1 and 0", 10_000, [1, 2, 3, 18]);
 }
 
 #[test]
 fn refusals_alike() {
     let queries = points_bytes(&[[3, 2, 1], [0, 0, 0], [-1, -1, -1]]);
-    for sheet in [vec![octant().bytes(), vec![]], refused_plain_sheets()].concat() {
+    let good = GRIDS.map(|grid| octant().on(grid).bytes());
+    for sheet in [good.to_vec(), vec![vec![]], GRIDS.map(refused_plain_sheets).concat()].concat() {
         for length in [0, 12, 35, 36] {
             for room in [0, 11, 12, 35, 36, 50] {
                 alike(&sheet, &queries[..length], &mut vec![0x5a; room]);

@@ -1,19 +1,23 @@
 -- The promised theorems, as statements. Their proofs are in proofs/Claims.
 -- Stated, in order: FeedEqualsSingle (a feed that succeeds answers each query as the single call does),
--- RefusedWritesNothing. They are of the definitions that the contracts of `judge_feed` and polygon's `judge` cite.
--- Assumes nothing.
+-- RefusedWritesNothing, FeedMixedExactly (28). They are of the definitions that the contracts of `judge_feed` and
+-- judging's `judge` cite. Assumes nothing.
 use mathlib.Core.Path.{_≡_}
-use mathlib.Core.List.{List}
+use mathlib.Core.List.{List, [], _∷_}
 use Prim.Native.Nat.{ℕ, _+_, _*_, _<_}
 use lib.IntN.{ℤ}
 use lib.ListN.{length, take, drop}
 use Rattle.sphere.specs.declared.point.Point.{Point}
+use Rattle.sphere.specs.declared.point.Grid.{Grid}
+use Rattle.sphere.specs.declared.point.GridPoint.{GridPoint}
 use Rattle.big_endian.specs.Bytes.{wordAt}
 use Rattle.polygon.specs.declared.answer.Answer.{Answer}
 use Rattle.polygon.specs.declared.answer.Answer.the-variants.{Done}
 use Rattle.polygon.specs.Answer.{numberOf, placeOf, countOf}
-use Rattle.polygon.specs.Verdict.{answerOf}
-use Rattle.batch.specs.Feed.{queryCount, queryAt, neededFor, resultBytes, feedOf, fedTo}
+use Rattle.polygon.specs.Checks.{_then_, listCheck}
+use Rattle.polygon.specs.Grids.{isMixed, gridAnswerOf}
+use Rattle.polygon.specs.GridClaims.{Mixed, on}
+use Rattle.batch.specs.Feed.{queryCount, queryAt, neededFor, resultBytes, sizeCheck, feedOf, fedTo}
 
 -- The twelve bytes from `at` on are the result of the answer a, and read as three words they lose nothing of it.
 pub record Encodes (b : List ℕ) (at : ℕ) (a : Answer) : Type 0 where
@@ -30,11 +34,18 @@ pub record Fed (single : Point → Answer) (queries buffer after : List ℕ) : T
 
 abbrev pub FeedEqualsSingle : Type 0
 FeedEqualsSingle =
-    (limit : ℕ) (vs : List ℤ) (X : Point) (queries buffer : List ℕ) →
-    feedOf limit vs X queries (length buffer) ≡ Done 0 →
-    Fed (answerOf limit vs X) queries buffer (fedTo limit vs X queries buffer)
+    (g : Grid) (vs : List ℤ) (X : GridPoint) (h : Grid) (queries buffer : List ℕ) →
+    feedOf g vs X h queries (length buffer) ≡ Done 0 →
+    Fed (λ P. gridAnswerOf g vs X (on h P)) queries buffer (fedTo g vs X h queries buffer)
 
 abbrev pub RefusedWritesNothing : Type 0
 RefusedWritesNothing =
-    (limit : ℕ) (vs : List ℤ) (X : Point) (queries buffer : List ℕ) →
-    (feedOf limit vs X queries (length buffer) ≡ Done 0 → ⊥) → fedTo limit vs X queries buffer ≡ buffer
+    (g : Grid) (vs : List ℤ) (X : GridPoint) (h : Grid) (queries buffer : List ℕ) →
+    (feedOf g vs X h queries (length buffer) ≡ Done 0 → ⊥) → fedTo g vs X h queries buffer ≡ buffer
+
+-- A feed on mixed grids is refused once, and then nothing is written: 28 exactly when 26, 27 and 10 do not hold and the
+-- grids differ.
+abbrev pub FeedMixedExactly : Type 0
+FeedMixedExactly =
+    (g : Grid) (vs : List ℤ) (X : GridPoint) (h : Grid) (queries : List ℕ) (room : ℕ) →
+    Mixed (feedOf g vs X h queries room) (sizeCheck queries room then listCheck vs) (isMixed g (X .grid ∷ h ∷ []))

@@ -1,15 +1,18 @@
 -- Document 02, P1: a feed (any number of queries to one polygon, in one call).
--- Defined, in order: queryCount, queryAt, neededFor, resultBytes; sizeCheck (26, 27), feedCheck (26, 27, 10 to 16),
--- feedOf (the answer); noSecond, resultOf (one query's result), resultsBytes, feedBytes (all of them), fedTo (the
+-- Defined, in order: queryCount, queryAt, neededFor, resultBytes; sizeCheck (26, 27), feedCheck (26, 27, 10, 28, 11 to
+-- 16), feedOf (the answer); noSecond, resultOf (one query's result), resultsBytes, feedBytes (all of them), fedTo (the
 -- result buffer after the call). Queries and results are numbered from 0. A result is by the known point or, where the
 -- query is opposite that, by the second one (document 02, P4); fedTo is of a feed that has none. Assumes nothing.
 use mathlib.Core.Bool.{not}
-use mathlib.Core.List.{List, [], _++_}
+use mathlib.Core.List.{List, [], _∷_, _++_}
 use Prim.Native.Nat.{ℕ, zero, suc, _*_, _/_, _%_}
 use lib.Dec.{eqb, ltb}
 use lib.IntN.{ℤ, pos}
 use lib.ListN.{length}
 use Rattle.sphere.specs.declared.point.Point.{Point}
+use Rattle.sphere.specs.declared.point.Grid.{Grid}
+use Rattle.sphere.specs.declared.point.GridPoint.{GridPoint}
+use Rattle.sphere.specs.Point.{limitOf}
 use Rattle.big_endian.specs.Bytes.{pointAt, wordBytes}
 use Rattle.polygon.specs.declared.answer.Answer.{Answer}
 use Rattle.polygon.specs.declared.answer.Answer.the-variants.{Done}
@@ -18,6 +21,7 @@ use Rattle.polygon.specs.Answer.{numberOf, placeOf, countOf, answerAfter}
 use Rattle.polygon.specs.Checks.{_then_, failsHere, failsIf, acceptCheck}
 use Rattle.polygon.specs.Verdict.{answerOf}
 use Rattle.polygon.specs.Pair.{judgeFrom}
+use Rattle.polygon.specs.Grids.{isMixed, gridCheck}
 use Rattle.batch.specs.Buffer.{bufferAfter}
 
 -- ---- twelve bytes a query, twelve bytes a result
@@ -42,12 +46,16 @@ sizeCheck queries room =
     failsIf 26 (not (eqb (length queries % 12) 0))
     then failsHere 27 (neededFor queries) (ltb room (neededFor queries))
 
-unfoldable pub feedCheck : ℕ → List ℤ → Point → List ℕ → ℕ → Check
-feedCheck limit vs X queries room = sizeCheck queries room then acceptCheck limit vs X
+-- The queries have one grid, h (document 02, P8).
+unfoldable pub feedCheck : Grid → List ℤ → GridPoint → Grid → List ℕ → ℕ → Check
+feedCheck g vs X h queries room =
+    sizeCheck queries room
+    then gridCheck vs (isMixed g (X .grid ∷ h ∷ []))
+    then acceptCheck (limitOf g) vs (X .point)
 
 -- The feed's own answer: the first refusal, or else success.
-unfoldable pub feedOf : ℕ → List ℤ → Point → List ℕ → ℕ → Answer
-feedOf limit vs X queries room = answerAfter (feedCheck limit vs X queries room) (Done 0)
+unfoldable pub feedOf : Grid → List ℤ → GridPoint → Grid → List ℕ → ℕ → Answer
+feedOf g vs X h queries room = answerAfter (feedCheck g vs X h queries room) (Done 0)
 
 -- ---- the results
 
@@ -69,6 +77,7 @@ unfoldable pub feedBytes : ℕ → List ℤ → Point → Point → List ℕ →
 feedBytes limit vs X Y queries = resultsBytes (resultOf limit vs X Y queries) (queryCount queries)
 
 -- The result buffer after the call.
-unfoldable pub fedTo : ℕ → List ℤ → Point → List ℕ → List ℕ → List ℕ
-fedTo limit vs X queries buffer =
-    bufferAfter (feedCheck limit vs X queries (length buffer)) (feedBytes limit vs X noSecond queries) buffer
+unfoldable pub fedTo : Grid → List ℤ → GridPoint → Grid → List ℕ → List ℕ → List ℕ
+fedTo g vs X h queries buffer =
+    bufferAfter (feedCheck g vs X h queries (length buffer))
+    (feedBytes (limitOf g) vs (X .point) noSecond queries) buffer

@@ -1,7 +1,6 @@
-// A whole feed in one call: document 02's P1.
-// Here, in order: size_check (26, 27), feed_check (26, 27, 10 to 16), store_result, judge_one, judge_each, judge_all,
-// judge_feed. Nothing of the polygon is copied for a query, and its boxes are built once. A second point that is all
-// zero is none (document 02, P4). Assumes nothing.
+// A whole feed in one call: document 02's P1. Here, in order: size_check (26, 27), feed_check (26, 27, 10, 28, 11 to
+// 16), store_result, judge_one, judge_each, judge_all, judge_feed. Nothing of the polygon is copied for a query, and
+// its boxes are built once. A second point that is all zero is none (document 02, P4). Assumes nothing.
 ghost use mathlib.Core.Path.{_≡_};
 ghost use Prim.Native.Nat.{_+_, _*_, _≤_, _<_};
 ghost use lib.ListN.{length};
@@ -21,7 +20,10 @@ use polygon::answer;
 use polygon::answer::Answer;
 use polygon::answer::Check;
 use polygon::checks::accept_check;
+use polygon::grids::grid_check;
+use polygon::grids::is_mixed;
 use sphere::point::Grid;
+use sphere::point::GridPoint;
 use sphere::point::Point;
 
 // Whole queries, and room for a result for each of them.
@@ -39,14 +41,26 @@ pub fn size_check(queries: &[u8], room: usize) -> Check
 }
 
 // All that is checked once for a feed, with `room` bytes for its results.
-pub fn feed_check(grid: Grid, vertices: &[i32], known: Point, queries: &[u8], room: usize) -> Check
-    ensures { λ r. ⌜ r ≡ feedCheck (limitOf grid) (now (vertices .entry)) known (now (queries .entry)) room ⌝ }
+pub fn feed_check(
+    grid: Grid,
+    vertices: &[i32],
+    known: GridPoint,
+    queries_grid: Grid,
+    queries: &[u8],
+    room: usize,
+) -> Check
+    ensures { λ r. ⌜ r ≡ feedCheck grid (now (vertices .entry)) known «queries_grid» (now (queries .entry)) room ⌝ }
 {
+    let g = known.grid;
     match size_check(queries, room) {
         Check::Passed => {}
         Check::Failed(number, place) => return Check::Failed(number, place),
     }
-    accept_check(grid, vertices, known)
+    match grid_check(vertices, is_mixed(grid, g, queries_grid)) {
+        Check::Passed => {}
+        Check::Failed(number, place) => return Check::Failed(number, place),
+    }
+    accept_check(grid, vertices, known.point)
 }
 
 // Twelve bytes: number, place, count.
@@ -131,24 +145,26 @@ pub fn judge_all(
     judge_each(grid, vertices, &boxes, known, second, queries, results)
 }
 
-// The feed from one known point: any numbers and bytes. A refusal changes no byte of the results.
+// The feed from one known point: any records and bytes. The queries have one grid. A refusal changes no byte of the
+// results.
 pub fn judge_feed(
     grid: Grid,
     vertices: &[i32],
-    known: Point,
+    known: GridPoint,
+    queries_grid: Grid,
     queries: &[u8],
     results: &mut [u8],
 ) -> Answer
-    ensures { λ r. ⌜ r ≡ feedOf (limitOf grid) (now (vertices .entry)) known (now (queries .entry))
+    ensures { λ r. ⌜ r ≡ feedOf grid (now (vertices .entry)) known «queries_grid» (now (queries .entry))
         (length (now (results .entry))) ⌝ }
-    ensures { λ _. ⌜ now (results .exit) ≡ fedTo (limitOf grid) (now (vertices .entry)) known (now (queries .entry))
-        (now (results .entry)) ⌝ }
+    ensures { λ _. ⌜ now (results .exit) ≡ fedTo grid (now (vertices .entry)) known «queries_grid»
+        (now (queries .entry)) (now (results .entry)) ⌝ }
 {
-    match feed_check(grid, vertices, known, queries, results.len()) {
+    match feed_check(grid, vertices, known, queries_grid, queries, results.len()) {
         Check::Passed => {}
         Check::Failed(number, place) => return Answer::Refused(number, place),
     }
     let none = Point { x: 0, y: 0, z: 0 };
-    judge_all(grid, vertices, known, none, queries, results);
+    judge_all(grid, vertices, known.point, none, queries, results);
     Answer::Done(0)
 }

@@ -1,5 +1,7 @@
 // What the charts are made of.
-// Here, in order: LIMIT, OVER, point, inner, beside, none, octant. Assumes nothing.
+// Here, in order: LIMIT, OVER, point, coarse, fine, inner, beside, none, octant. Assumes nothing.
+use sphere::point::Grid;
+use sphere::point::GridPoint;
 use sphere::point::Point;
 
 // The limit of the grid, and the first number beyond it.
@@ -9,6 +11,21 @@ pub(crate) const OVER: i64 = 1_048_577;
 
 pub(crate) fn point(x: i64, y: i64, z: i64) -> Point {
     Point { x: x, y: y, z: z }
+}
+
+// The record of a point on the coarse grid, and on the fine one (document 02, P8).
+pub(crate) fn coarse(p: Point) -> GridPoint {
+    GridPoint {
+        grid: Grid::Coarse,
+        point: p,
+    }
+}
+
+pub(crate) fn fine(p: Point) -> GridPoint {
+    GridPoint {
+        grid: Grid::Fine,
+        point: p,
+    }
 }
 
 // The known point of the octant.

@@ -4,6 +4,7 @@
 // Here, in order: write_ring, is_front, write_back, read_ring, run. Assumes nothing of its own.
 ghost use Prim.Native.Nat.{_≤_};
 ghost use lib.ListN.{length};
+use crate::given;
 use crate::given::point;
 use crate::lines;
 use crate::reading;
@@ -13,6 +14,7 @@ use crate::writing::write_front;
 use sheet::read;
 use sheet::read::Sheet;
 use sheet::write;
+use sphere::point::Grid;
 
 // Writes the ring's 12,288 numbers into the first bytes of a buffer, and looks at the bytes that had to stay.
 fn write_ring(label: &[u8], kept: &[u8], numbers: &[i32], buffer: &mut [u8], room: usize)
@@ -53,9 +55,10 @@ fn write_back(sheet: Sheet, vertices: &[i32; 12288], bytes: &[u8]) {
         sheet.zone,
         sheet.charset,
         &[65; 120],
-        sheet.known,
+        given::coarse(sheet.known),
+        Grid::Coarse,
         vertices,
-        sheet.second,
+        given::coarse(sheet.second),
         &mut again,
     );
     lines::print_same(b"sheet_49319_back", check::same(&again, bytes))

@@ -1,7 +1,7 @@
 // One line of output for each chart. Here, in order: print_numbers, print_answer, print_same, judge, judge_list,
 // judge_octant, ask_octant, octant_from. Assumes nothing of its own.
 use crate::given;
-use judging::judge;
+use judging::calls;
 use libc::STDOUT_FILENO;
 use polygon::answer;
 use polygon::answer::Answer;
@@ -37,7 +37,13 @@ pub(crate) fn print_same(label: &[u8], is_same: bool) {
 
 // What is said of a list, a known point and a query.
 pub(crate) fn judge(label: &[u8], vertices: &[i32], known: Point, query: Point) {
-    print_answer(label, judge::judge(Grid::Coarse, vertices, known, query))
+    let answer = calls::judge(
+        Grid::Coarse,
+        vertices,
+        given::coarse(known),
+        given::coarse(query),
+    );
+    print_answer(label, answer)
 }
 
 // The same, where both points are the octant's known point.

@@ -61,7 +61,7 @@ fn handed_back() {
 
 // K8, opposite the known point, is judged from the second: the arc from (1, 1, 2) to (-1, -1, -1) passes (0, 0, 1), the
 // end of side 1, and crosses that alone.
-fn judge_front(label: &[u8], sheet: &[u8], n: usize, query: Point)
+pub(crate) fn judge_front(label: &[u8], sheet: &[u8], n: usize, query: Point)
     requires { ⌜ n ≤ length (now sheet) ⌝ }
 {
     lines::print_answer(label, judge::judge(&sheet[..n], query))

@@ -12,6 +12,7 @@ use crate::reading;
 use polygon::answer;
 use polygon::answer::Answer;
 use sheet::write;
+use sphere::point::Grid;
 use sphere::point::Point;
 
 // One byte more than the longest sheet, and no byte that a sheet of ours has.
@@ -65,9 +66,10 @@ pub(crate) fn write_front(
         zone,
         charset,
         name,
-        known,
+        given::coarse(known),
+        Grid::Coarse,
         vertices,
-        second,
+        given::coarse(second),
         &mut buffer[..room],
     )
 }
@@ -152,7 +154,7 @@ fn try_list(kept: bool, label: &[u8], vertices: &[i32]) -> bool {
 }
 
 // The bytes are the first n of the others.
-fn is_front(bytes: &[u8], others: &[u8], n: usize) -> bool
+pub(crate) fn is_front(bytes: &[u8], others: &[u8], n: usize) -> bool
     requires { ⌜ n ≤ length (now others) ⌝ }
 {
     check::same(bytes, &others[..n])
@@ -164,9 +166,10 @@ fn octant_bytes() {
         7,
         1,
         b"A",
-        given::inner(),
+        given::coarse(given::inner()),
+        Grid::Coarse,
         &given::octant(),
-        given::none(),
+        given::coarse(given::none()),
         &mut buffer,
     );
     lines::print_same(

@@ -42,7 +42,7 @@ fn twins_in(
     ensures { λ k. ⌜ k ≡ countFrom (isTwin (now (vertices .entry)) c d) (r * 32)
         (runEnd (vertexCount (now (vertices .entry))) r - r * 32) ⌝ }
 {
-    if boxes::is_run_apart(plane, boxes, r) {
+    if boxes::is_apart(plane, boxes, r) {
         return 0;
     }
     twins(

@@ -1,17 +1,21 @@
 // Boxes beside the polygon: document 02's P2.
 // Here, in order: Bounds; lesser, greater, least, greatest, run_count, run_end, run_box (one run's box); put_number,
-// put_corner, put_box, box_at, fill (all of them, in one array of numbers); end_for, corner, is_apart, is_run_apart.
-// Assumes nothing.
+// put_corner, put_box, fill (all of them, in one array of numbers); end_at, end_for, corner, is_apart. Assumes nothing.
 ghost use mathlib.Core.Path.{_≡_};
 ghost use Prim.Native.Nat.{_+_, _*_, _≤_, _<_};
-ghost use lib.ListN.{length, set};
+ghost use mathlib.Core.Bool.{cond};
+ghost use lib.IntN.{pos};
+ghost use lib.ListN.{length, getD, set};
+ghost use Rattle.integers.specs.Sign.{signOf, isNegative};
 ghost use Rattle.sphere.specs.Point.{fine, limitOf, Fits, Within};
 ghost use Rattle.sphere.specs.Plane.{Sound};
 ghost use Rattle.polygon.specs.Accepted.{Listed, Gridded};
 ghost use Rattle.polygon.specs.Vertices.{vertexCount};
 ghost use Rattle.judging.specs.Boxes.{runCount, runEnd, lesserOf, greaterOf, leastOf, greatestOf, boxOf};
-ghost use Rattle.judging.specs.Boxes.{boxAt, pointStored, boxStored, boxesStored, endFor, cornerFor, isApart};
+ghost use Rattle.judging.specs.Boxes.{pointOf, boxAt, pointStored, boxStored, boxesStored, endFor};
+ghost use Rattle.judging.specs.Boxes.{cornerFor, isApart};
 use polygon::vertices::end_of;
+use polygon::vertices::number_at;
 use polygon::vertices::vertex_at;
 use sphere::plane::Plane;
 use sphere::plane::exact_side_of;
@@ -128,16 +132,6 @@ fn put_box(vertices: &[i32], boxes: &mut [i32], r: usize)
     put_corner(boxes, r * 6 + 3, b.high)
 }
 
-fn box_at(boxes: &[i32], r: usize) -> Bounds
-    requires { ⌜ r * 6 + 6 ≤ length (now boxes) ⌝ }
-    ensures { λ b. ⌜ b ≡ boxAt (now (boxes .entry)) r ⌝ }
-{
-    Bounds {
-        low: vertex_at(boxes, r * 2),
-        high: vertex_at(boxes, r * 2 + 1),
-    }
-}
-
 // All boxes of the polygon, run by run.
 pub fn fill(vertices: &[i32], boxes: &mut [i32])
     requires { ⌜ Listed (now vertices) × Gridded fine (now vertices) × (768 ≤ length (now boxes)) ⌝ }
@@ -150,9 +144,10 @@ pub fn fill(vertices: &[i32], boxes: &mut [i32])
     }
 }
 
-// Of two ends of a box along one axis, the one where n times it is least, if a <= b; greatest, if b <= a.
-fn end_for(n: i64, a: i64, b: i64) -> i64
-    ensures { λ r. ⌜ r ≡ endFor n a b ⌝ }
+// Of the offsets of two ends of a box along one axis, that of the end where n times it is least, if the first is not
+// the greater; greatest, if the second is not. It is the same for each box of the array.
+fn end_at(n: i64, a: usize, b: usize) -> usize
+    ensures { λ r. ⌜ r ≡ cond (isNegative (signOf n)) b a ⌝ }
 {
     if n < 0 {
         return b;
@@ -160,34 +155,38 @@ fn end_for(n: i64, a: i64, b: i64) -> i64
     a
 }
 
-fn corner(normal: Point, a: Point, b: Point) -> Point
-    ensures { λ r. ⌜ r ≡ cornerFor normal a b ⌝ }
+fn end_for(boxes: &[i32], n: i64, at: usize, a: usize, b: usize) -> i64
+    requires { ⌜ (at + a < length (now boxes)) × (at + b < length (now boxes)) ⌝ }
+    ensures { λ r. ⌜ r ≡ endFor n (getD (now (boxes .entry)) (at + a) (pos 0))
+        (getD (now (boxes .entry)) (at + b) (pos 0)) ⌝ }
+{
+    number_at(boxes, at + end_at(n, a, b))
+}
+
+// A corner of the box between the points at offsets a and b.
+fn corner(normal: Point, boxes: &[i32], at: usize, a: usize, b: usize) -> Point
+    requires { ⌜ (at + a + 3 ≤ length (now boxes)) × (at + b + 3 ≤ length (now boxes)) ⌝ }
+    ensures { λ r. ⌜ r ≡ cornerFor normal (pointOf (now (boxes .entry)) (at + a))
+        (pointOf (now (boxes .entry)) (at + b)) ⌝ }
 {
     Point {
-        x: end_for(normal.x, a.x, b.x),
-        y: end_for(normal.y, a.y, b.y),
-        z: end_for(normal.z, a.z, b.z),
+        x: end_for(boxes, normal.x, at, a, b),
+        y: end_for(boxes, normal.y, at + 1, a, b),
+        z: end_for(boxes, normal.z, at + 2, a, b),
     }
 }
 
-// The whole box lies strictly on one side of the plane. The sums are exact on either grid.
-fn is_apart(plane: Plane, b: Bounds) -> bool
-    requires { ⌜ Sound plane × Within (limitOf (plane .grid)) (b .low) × Within (limitOf (plane .grid)) (b .high) ⌝ }
-    ensures { λ r. ⌜ r ≡ isApart (plane .normal) b ⌝ }
-{
-    let normal = plane.normal;
-    if exact_side_of(plane, corner(normal, b.low, b.high)) > 0 {
-        return true;
-    }
-    exact_side_of(plane, corner(normal, b.high, b.low)) < 0
-}
-
-// The same of the box of run r.
-pub fn is_run_apart(plane: Plane, boxes: &[i32], r: usize) -> bool
+// The whole box of run r lies strictly on one side of the plane. The sums are exact on either grid.
+pub fn is_apart(plane: Plane, boxes: &[i32], r: usize) -> bool
     requires { ⌜ Sound plane × (r * 6 + 6 ≤ length (now boxes)) ⌝ }
     requires { ⌜ Within (limitOf (plane .grid)) (boxAt (now boxes) r .low)
         × Within (limitOf (plane .grid)) (boxAt (now boxes) r .high) ⌝ }
     ensures { λ t. ⌜ t ≡ isApart (plane .normal) (boxAt (now (boxes .entry)) r) ⌝ }
 {
-    is_apart(plane, box_at(boxes, r))
+    let normal = plane.normal;
+    let at = r * 6;
+    if exact_side_of(plane, corner(normal, boxes, at, 0, 3)) > 0 {
+        return true;
+    }
+    exact_side_of(plane, corner(normal, boxes, at, 3, 0)) < 0
 }

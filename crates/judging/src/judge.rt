@@ -1,6 +1,6 @@
-// The calls that judge a query. Here, in order: by_parity, verdict_on; Judgement, refused, judge_boxed, judge_accepted,
-// judge_query, judge, looked. Document 01, 'What comes back'; document 02, P2: each call builds its own
-// boxes, a feed once. Assumes nothing.
+// Judging a query on one grid. Here, in order: by_parity, verdict_on; Judgement, refused, judge_boxed, judge_accepted,
+// judge_query, judge_on, looked_on. Document 01, 'What comes back'; document 02, P2: each call builds its own boxes, a
+// feed once. What users call is in `calls`. Assumes nothing.
 ghost use mathlib.Core.Path.{_≡_};
 ghost use Rattle.sphere.specs.Point.{limitOf};
 ghost use Rattle.polygon.specs.declared.answer.Answer.the-variants.{Refused};
@@ -107,8 +107,8 @@ pub fn judge_query(grid: Grid, vertices: &[i32], known: Point, query: Point) -> 
     judge_accepted(grid, vertices, known, query).answer
 }
 
-// The judging call: any numbers.
-pub fn judge(grid: Grid, vertices: &[i32], known: Point, query: Point) -> Answer
+// The judging call on one grid: any numbers.
+pub(crate) fn judge_on(grid: Grid, vertices: &[i32], known: Point, query: Point) -> Answer
     ensures { λ r. ⌜ r ≡ answerOf (limitOf grid) (now (vertices .entry)) known query ⌝ }
 {
     match accept_check(grid, vertices, known) {
@@ -118,8 +118,8 @@ pub fn judge(grid: Grid, vertices: &[i32], known: Point, query: Point) -> Answer
     judge_query(grid, vertices, known, query)
 }
 
-// How many edges the judging call looks at: any numbers.
-pub fn looked(grid: Grid, vertices: &[i32], known: Point, query: Point) -> u32
+// How many edges it looks at: any numbers.
+pub(crate) fn looked_on(grid: Grid, vertices: &[i32], known: Point, query: Point) -> u32
     ensures { λ r. ⌜ r ≡ lookedOf (limitOf grid) (now (vertices .entry)) known query ⌝ }
 {
     match accept_check(grid, vertices, known) {

@@ -1,7 +1,7 @@
 // The walk over a polygon's edges: document 01's 'When the arc crosses a side', and document 02's P2. Here, in order:
-// Met, meet (one edge); counted, Tally, tally_by, Near, next_near, last_inner, side_at, walk_edges (some edges);
-// looked_in, next_run, Walk, walk_runs (all, run by run). The plane through the reference point and the query has its
-// normal worked out once, and each vertex that the walk comes to its side of it. Assumes nothing.
+// Met, meet (one edge); counted, Tally, tally_by, walk_edges (some edges); looked_in, Walk, walk_runs (all, run by
+// run). The plane through the reference point and the query has its normal worked out once, and each vertex that the
+// walk comes to its side of it. Assumes nothing.
 ghost use mathlib.Core.Path.{_≡_};
 ghost use mathlib.Core.Bool.{cond};
 ghost use Prim.Native.Nat.{_+_, _*_, _-_, _≤_, _<_};
@@ -15,10 +15,14 @@ ghost use Rattle.polygon.specs.Accepted.{Listed, Gridded};
 ghost use Rattle.polygon.specs.Vertices.{vertexCount, nextOf, startOf, endOf};
 ghost use Rattle.polygon.specs.Verdict.{isCoast, wayOf};
 ghost use Rattle.judging.specs.Boxes.{Boxed};
-ghost use Rattle.judging.specs.Scan.{sideOf, Sided, isNear, stopFrom, lastInner, Cornered, isRun};
+ghost use Rattle.judging.specs.Scan.{Sided};
 ghost use Rattle.judging.specs.Walk.{metBy, tallyBy, tallyFrom, reachOf, Among, walkFrom};
 use crate::border::is_coast;
 use crate::boxes;
+use crate::scan::last_inner;
+use crate::scan::next_near;
+use crate::scan::next_run;
+use crate::scan::side_at;
 use polygon::answer::Found;
 use polygon::vertices::end_of;
 use polygon::vertices::vertex_at;
@@ -94,68 +98,6 @@ fn tally_by(found: Found, crossed: u32, sum: i32) -> Tally
     }
 }
 
-// An edge where a scan stops, and the sides of its ends.
-pub struct Near {
-    pub edge: usize,
-    pub start: i64,
-    pub end: i64,
-}
-
-// Past the edges from i on, before `last`, whose ends are strictly on one side. Most edges of a run are, so this is the
-// inner loop: a vertex a turn. `side` is that of vertex i. Only the edge after them may go back to vertex 0, whose side
-// is `home`.
-fn next_near(vertices: &[i32], plane: Plane, home: i64, i: usize, side: i64, last: usize) -> Near
-    requires { ⌜ Listed (now vertices) × Gridded (limitOf (plane .grid)) (now vertices) × Sound plane ⌝ }
-    requires { ⌜ (i ≤ vertexCount (now vertices)) × (last < vertexCount (now vertices)) ⌝ }
-    requires { ⌜ Sided (now vertices) (plane .normal) i side × Sided (now vertices) (plane .normal) 0 home ⌝ }
-    ensures { λ r. ⌜ (r .edge ≡ stopFrom (isNear (now (vertices .entry)) (plane .normal)) i (last - i))
-        × Sided (now (vertices .entry)) (plane .normal) (r .edge) (r .start)
-        × Sided (now (vertices .entry)) (plane .normal) (nextOf (last + 1) (r .edge)) (r .end) ⌝ }
-{
-    let mut edge = i;
-    let mut s1 = side;
-    while edge < last {
-        let s2 = side_of(plane, vertex_at(vertices, edge + 1));
-        if !is_beside(s1, s2) {
-            return Near {
-                edge: edge,
-                start: s1,
-                end: s2,
-            };
-        }
-        s1 = s2;
-        edge += 1;
-    }
-    Near {
-        edge: edge,
-        start: s1,
-        end: home,
-    }
-}
-
-// The end of those of the edges before `to` that do not go back to vertex 0.
-fn last_inner(n: usize, to: usize) -> usize
-    requires { ⌜ 0 < n ⌝ }
-    ensures { λ r. ⌜ r ≡ lastInner n to ⌝ }
-{
-    if to < n {
-        return to;
-    }
-    n - 1
-}
-
-// The side of vertex i, where that of vertex 0 is known.
-fn side_at(vertices: &[i32], plane: Plane, home: i64, i: usize) -> i64
-    requires { ⌜ Gridded (limitOf (plane .grid)) (now vertices) × Sound plane × (i < vertexCount (now vertices)) ⌝ }
-    requires { ⌜ Sided (now vertices) (plane .normal) 0 home ⌝ }
-    ensures { λ r. ⌜ signOf r ≡ signOf (sideOf (now (vertices .entry)) (plane .normal) i) ⌝ }
-{
-    if i == 0 {
-        return home;
-    }
-    side_of(plane, vertex_at(vertices, i))
-}
-
 // One pass over the edges before `to`: the first border edge that holds the query ends it, and the crossings are
 // counted and summed on the way.
 fn walk_edges(
@@ -218,21 +160,6 @@ fn looked_in(tally: Tally, from: usize, to: usize) -> u32
         Tally::Held(edge) => (edge + 1 - from) as u32,
         Tally::Crossed(_, _) => (to - from) as u32,
     }
-}
-
-// The first run from r on that is skipped, or that is not: whose box lies strictly on one side of the plane, or not.
-fn next_run(boxes: &[i32], plane: Plane, r: usize, runs: usize, skipped: bool) -> usize
-    requires { ⌜ Sound plane × Cornered (limitOf (plane .grid)) (now boxes) runs ⌝ }
-    ensures { λ to. ⌜ to ≡ stopFrom (isRun (now (boxes .entry)) (plane .normal) skipped) r (runs - r) ⌝ }
-{
-    let mut i = r;
-    while i < runs {
-        if boxes::is_run_apart(plane, boxes, i) == skipped {
-            return i;
-        }
-        i += 1;
-    }
-    i
 }
 
 // What a walk says, and the number of edges looked at.

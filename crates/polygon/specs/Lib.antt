@@ -6,7 +6,9 @@ pub mod Accepted
 pub mod Border
 pub mod Verdict
 pub mod Pair
+pub mod Grids
 pub mod Charts
 pub mod Claims
 pub mod PairCharts
 pub mod PairClaims
+pub mod GridClaims

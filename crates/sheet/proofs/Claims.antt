@@ -2,29 +2,35 @@
 -- Proved, in order: read-never-ten, sheet-size, read-writes-back, written-reads-back, sheet-answers-as-list. The
 -- octant's sheets are in proofs/Octant, the feed in proofs/Fed. Assumes nothing.
 use mathlib.Core.Path.{_≡_, refl, sym, ap, _∙_}
-use mathlib.Core.Bool.{Bool, true, false}
-use mathlib.Core.List.{List, [], _++_, append-nil}
+use mathlib.Core.Bool.{Bool, true, false, cond}
+use mathlib.Core.List.{List, [], _∷_, _++_, append-nil}
 use Prim.Native.Nat.{ℕ, _+_, _≤_}
 use native.Mathlib.Omega.{arith}
 use borrow.Author.Tests.{ltb-false, le-ltb, not-false}
 use lib.ListN.{length, drop}
 use lib.Seq.{take-at, drop-length}
-use Rattle.sphere.specs.Point.{coarse, isNull}
+use Rattle.sphere.specs.declared.point.Point.{Point}
+use Rattle.sphere.specs.declared.point.Grid.{Grid}
+use Rattle.sphere.specs.declared.point.Grid.the-variants.{Coarse, Fine}
+use Rattle.sphere.specs.Point.{limitOf, isNull}
 use Rattle.polygon.specs.declared.answer.Answer.the-variants.{Done}
 use Rattle.polygon.specs.declared.answer.Check.{Check}
 use Rattle.polygon.specs.declared.answer.Check.the-variants.{Passed, Failed}
 use Rattle.polygon.specs.Answer.{numberOf, answerAfter}
 use Rattle.polygon.specs.Pair.{optionalCheck}
 use Rattle.polygon.proofs.Laws.Checks.{here-passed, then-passed, accepted-some}
-use Rattle.polygon.proofs.Laws.Pair.{second-passed, called-judged}
-use Rattle.sheet.specs.Fields.{isAllowed, isCharset, fieldCheck, charsetStart, nameStart, secondStart, hasSecond}
-use Rattle.sheet.specs.Fields.{sheetEnd, charsetCheck, fiveFields, sheetFields, restCheck, fieldsCheck}
+use Rattle.polygon.specs.Grids.{isMixed, gridCheck, gridOfSecond}
+use Rattle.polygon.specs.GridClaims.{on}
+use Rattle.polygon.proofs.Laws.Pair.{optional-first, second-passed, called-judged}
+use Rattle.sheet.specs.Fields.{isAllowed, isCharset, fieldCheck, charsetStart, nameStart, gridOf, secondStart}
+use Rattle.sheet.specs.Fields.{hasSecond, sheetEnd, charsetCheck, fiveFields, sheetFields, restCheck, fieldsCheck}
 use Rattle.sheet.specs.Sheet.{charsetOf, nameOf, knownOf, verticesOf, secondOf, sheetCheck, readAfter, readOf}
 use Rattle.sheet.specs.Judge.{sheetAnswerOf}
 use Rattle.sheet.specs.Write.{neededFor, inputCheck, writeCheck, writeOf, writtenTo}
 use Rattle.sheet.specs.Claims.{WrittenReadsBack, ReadWritesBack, ReadNeverTen, SheetSize, SheetAnswersAsList}
 use Rattle.sheet.proofs.Laws.Fields.{passed-field, passed-fields, passed-spans, five-passed, end-plain}
 use Rattle.sheet.proofs.Laws.Fields.{end-carried, end-within}
+use Rattle.sheet.proofs.Laws.Accepted.{list-check}
 use Rattle.sheet.proofs.Laws.Stores.{sheetBytes-length}
 use Rattle.sheet.proofs.Laws.Second.{size-kept, second-kept}
 use Rattle.sheet.proofs.Laws.Kept.{nameOf-length, verticesOf-length, sheet-kept}
@@ -56,7 +62,7 @@ read-never-ten b e = not-ten b (sheetCheck b) (above-sheet b) e
 record Accepted (b : List ℕ) : Type 0 where
   sound : sheetFields b ≡ Passed
   ends : length b ≡ sheetEnd b
-  points : optionalCheck coarse (verticesOf b) (knownOf b) (secondOf b) ≡ Passed
+  points : optionalCheck (limitOf (gridOf b)) (verticesOf b) (knownOf b) (secondOf b) ≡ Passed
   some : hasSecond b ≡ true → isNull (secondOf b) ≡ false
 
 module _ (b : List ℕ) (e : sheetCheck b ≡ Passed) where
@@ -70,8 +76,8 @@ module _ (b : List ℕ) (e : sheetCheck b ≡ Passed) where
   carried-some has =
       let carried = sym (sheet-carried b (sheet-plain b e)) ∙ e in
       let passed = sym (carried-second b has .1) ∙ carried in
-      let second = second-passed coarse (verticesOf b) (knownOf b) (secondOf b) passed in
-      accepted-some coarse (verticesOf b) (secondOf b) (second .accepted)
+      let second = second-passed (limitOf (gridOf b)) (verticesOf b) (knownOf b) (secondOf b) passed in
+      accepted-some (limitOf (gridOf b)) (verticesOf b) (secondOf b) (second .accepted)
 
   accepted : Accepted b
   accepted =
@@ -99,6 +105,16 @@ sheet-size b e =
 
 -- ---- what is read writes back
 
+-- A sheet's points are on one grid.
+one-grid : (g : Grid) (Y : Point) → isMixed g (g ∷ gridOfSecond g (on g Y) ∷ []) ≡ false
+one-grid g Y = go g (isNull Y)
+  where
+    go : (g : Grid) (none : Bool) → isMixed g (g ∷ cond none g g ∷ []) ≡ false
+    go Coarse true = refl
+    go Coarse false = refl
+    go Fine true = refl
+    go Fine false = refl
+
 module _ (b : List ℕ) (a : Accepted b) where
   five : fiveFields b ≡ Passed
   five = five-passed b (a .sound)
@@ -122,11 +138,15 @@ module _ (b : List ℕ) (a : Accepted b) where
 
   kept-check :
       (room : ℕ) → room ≡ length b →
-      writeCheck (charsetOf b) (nameOf b) (knownOf b) (verticesOf b) (secondOf b) room ≡ Passed
-  unfolding writeCheck inputCheck
+      let g = gridOf b in
+      writeCheck (charsetOf b) (nameOf b) (on g (knownOf b)) g (verticesOf b) (on g (secondOf b)) room ≡ Passed
+  unfolding writeCheck inputCheck gridCheck
   kept-check room e =
       let n = neededFor (nameOf b) (verticesOf b) (secondOf b) in
-      rw (coded, named, a .points, le-ltb room n (omega (arith, needed)))
+      let limit = limitOf (gridOf b) in
+      let first = optional-first limit (verticesOf b) (knownOf b) (secondOf b) (a .points) in
+      let list = list-check limit (verticesOf b) (knownOf b) first in
+      rw (coded, named, list, one-grid (gridOf b) (secondOf b), a .points, le-ltb room n (omega (arith, needed)))
 
 pub read-writes-back : ReadWritesBack
 unfolding writeOf writtenTo
@@ -147,15 +167,15 @@ write-passed (Failed n p) place h e = absurd (omega (arith, h .number n p refl))
 
 pub written-reads-back : WrittenReadsBack
 unfolding writeOf writtenTo writeCheck
-written-reads-back zone charset name known vertices second buffer small e =
+written-reads-back zone charset name known g vertices second buffer small e =
     let room = length buffer in
-    let c : writeCheck charset name known vertices second room ≡ Passed =
-    write-passed (writeCheck charset name known vertices second room) _
-    (above-write charset name known vertices second room) e in
-    let input = then-passed (inputCheck charset name known vertices second) _ c .0 in
-    let w = passed-writable charset name known vertices second zone small input in
-    let size = sheetBytes-length zone charset name known vertices second in
-    rw c (reads-as zone charset name known vertices second w _ (take-at _ _ _ size))
+    let c : writeCheck charset name known g vertices second room ≡ Passed =
+    write-passed (writeCheck charset name known g vertices second room) _
+    (above-write charset name known g vertices second room) e in
+    let input = then-passed (inputCheck charset name known g vertices second) _ c .0 in
+    let w = passed-writable charset name known g vertices second zone small input in
+    let size = sheetBytes-length zone charset name (known .point) g vertices (second .point) in
+    rw c (reads-as zone charset name (known .point) g vertices (second .point) w _ (take-at _ _ _ size))
 
 -- ---- judging by a sheet is judging by its parts
 pub sheet-answers-as-list : SheetAnswersAsList
@@ -164,4 +184,4 @@ sheet-answers-as-list b P e =
     let done = read-done b e in
     let ok = sheet-optional b done in
     rw (read-accepted b done, done)
-    (ok, sym (called-judged coarse (verticesOf b) (knownOf b) (secondOf b) P ok))
+    (ok, sym (called-judged (limitOf (gridOf b)) (verticesOf b) (knownOf b) (secondOf b) P ok))

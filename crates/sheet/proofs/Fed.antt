@@ -6,7 +6,7 @@ use Prim.Native.Nat.{ℕ}
 use native.Mathlib.Omega.{arith}
 use lib.ListN.{length}
 use Rattle.sphere.specs.declared.point.Point.{Point}
-use Rattle.sphere.specs.Point.{coarse}
+use Rattle.sphere.specs.Point.{limitOf}
 use Rattle.polygon.specs.declared.answer.Answer.the-variants.{Done}
 use Rattle.polygon.specs.declared.answer.Check.{Check}
 use Rattle.polygon.specs.declared.answer.Check.the-variants.{Passed, Failed}
@@ -18,6 +18,7 @@ use Rattle.batch.specs.Feed.{sizeCheck}
 use Rattle.batch.specs.Claims.{Fed}
 use Rattle.batch.proofs.Laws.Ends.{size-passed}
 use Rattle.batch.proofs.Laws.Fed.{fed-results, fed-same}
+use Rattle.sheet.specs.Fields.{gridOf}
 use Rattle.sheet.specs.Sheet.{knownOf, verticesOf, secondOf, sheetCheck}
 use Rattle.sheet.specs.Judge.{sheetAnswerOf, sheetFeedCheck, sheetFeedOf, sheetFedTo}
 use Rattle.sheet.specs.Claims.{SheetFeedEqualsSingle}
@@ -42,7 +43,7 @@ module _ (b queries buffer : List ℕ) (done : sheetFeedOf b queries (length buf
 
   -- the single call by an accepted sheet
   single : (P : Point) →
-      answerOf coarse (verticesOf b) (judgeFrom (knownOf b) (secondOf b) P) P ≡ sheetAnswerOf b P
+      answerOf (limitOf (gridOf b)) (verticesOf b) (judgeFrom (knownOf b) (secondOf b) P) P ≡ sheetAnswerOf b P
   unfolding sheetAnswerOf
   single P = rw (passed .1)
 
@@ -50,7 +51,7 @@ module _ (b queries buffer : List ℕ) (done : sheetFeedOf b queries (length buf
   sheet-fed =
       subst (Fed (sheetAnswerOf b) queries buffer) (sym (feed-ends b queries buffer whole .filled))
       (fed-same single
-      (fed-results coarse (verticesOf b) (knownOf b) (secondOf b) queries buffer
+      (fed-results (limitOf (gridOf b)) (verticesOf b) (knownOf b) (secondOf b) queries buffer
       (size-passed queries (length buffer) (passed .0)) (sheet-optional b (passed .1))))
 
 pub sheet-feed-equals-single : SheetFeedEqualsSingle

@@ -1,5 +1,6 @@
 -- The octant's sheets, byte by byte, and what is read and judged of them. The checker computes all of it, so every
--- definition that it goes through is opened here. Proved: octant-sheet, octant-pair-sheet. Assumes nothing.
+-- definition that it goes through is opened here. Proved: octant-sheet, octant-pair-sheet,
+-- octant-fine-sheet. Assumes nothing.
 use mathlib.Core.Path.{refl}
 use Rattle.sphere.specs.Point.{isFar, isBeyond, isNull, isOffGrid}
 use Rattle.sphere.specs.Orientation.{orientationOf, crossOf, dotOf}
@@ -14,12 +15,13 @@ use Rattle.polygon.specs.Checks.{listCheck, beyondCheck, nullCheck, sameCheck, 
 use Rattle.polygon.specs.Checks.{circleCheck, queryCheck, farCheck, polygonCheck, acceptCheck, judgeCheck}
 use Rattle.polygon.specs.Verdict.{boundaryOf, crossingsOf, windingOf, verdictOf, answerOf}
 use Rattle.polygon.specs.Pair.{isSecond, secondCheck, judgeFrom}
-use Rattle.sheet.specs.Fields.{isAllowed, fieldEnd, fieldCheck, hasSecond, isCharset, charsetCheck, fiveFields}
+use Rattle.sheet.specs.Fields.{isAllowed, fieldEnd, fieldCheck, gridAt, hasSecond, isCharset, charsetCheck}
+use Rattle.sheet.specs.Fields.{fiveFields}
 use Rattle.sheet.specs.Fields.{secondField, sheetFields, restCheck, fieldsCheck}
 use Rattle.sheet.specs.Sheet.{secondOf, plainCheck, carriedCheck, sheetCheck, readOf}
 use Rattle.sheet.specs.Judge.{sheetAnswerOf}
 use Rattle.sheet.specs.Write.{fieldBytes, secondBytes, sheetBytes}
-use Rattle.sheet.specs.Claims.{OctantSheet, OctantPairSheet, octantBytes, octantPairBytes}
+use Rattle.sheet.specs.Claims.{OctantSheet, OctantPairSheet, OctantFineSheet, octantBytes, octantPairBytes}
 
 pub octant-sheet : OctantSheet
 unfolding octantBytes sheetBytes secondBytes isNull fieldBytes shortBytes wordBytes intBytes intsBytes wordOf
@@ -28,9 +30,21 @@ octant-sheet = refl
 pub octant-pair-sheet : OctantPairSheet
 unfolding octantBytes octantPairBytes sheetBytes secondBytes fieldBytes shortBytes wordBytes intBytes intsBytes wordOf
     readOf sheetAnswerOf sheetCheck plainCheck carriedCheck secondOf fieldsCheck restCheck sheetFields secondField
-    fiveFields charsetCheck isCharset hasSecond fieldCheck fieldEnd isAllowed shortAt wordAt signed intAt pointAt intsAt
+    fiveFields charsetCheck isCharset hasSecond gridAt fieldCheck fieldEnd isAllowed shortAt wordAt signed intAt pointAt
+    intsAt
     secondCheck isSecond judgeFrom answerOf judgeCheck acceptCheck polygonCheck listCheck beyondCheck nullCheck
     sameCheck antipodalCheck referenceCheck circleCheck queryCheck farCheck verdictOf boundaryOf crossingsOf windingOf
     firstFrom countFrom sumFrom vertexAt nextOf isOffGrid isBeyond isFar isNull isSameDirection isAntipodal crossingOf
     isOnEdge orientationOf crossOf dotOf
 octant-pair-sheet = (refl, refl, refl, refl)
+
+pub octant-fine-sheet : OctantFineSheet
+unfolding octantBytes sheetBytes secondBytes fieldBytes shortBytes wordBytes intBytes intsBytes wordOf
+    readOf sheetAnswerOf sheetCheck plainCheck carriedCheck secondOf fieldsCheck restCheck sheetFields secondField
+    fiveFields charsetCheck isCharset hasSecond gridAt fieldCheck fieldEnd isAllowed shortAt wordAt signed intAt pointAt
+    intsAt
+    judgeFrom answerOf judgeCheck acceptCheck polygonCheck listCheck beyondCheck nullCheck
+    sameCheck antipodalCheck referenceCheck circleCheck queryCheck farCheck verdictOf boundaryOf crossingsOf windingOf
+    firstFrom countFrom sumFrom vertexAt nextOf isOffGrid isBeyond isFar isNull isSameDirection isAntipodal crossingOf
+    isOnEdge orientationOf crossOf dotOf
+octant-fine-sheet = (refl, refl, refl, refl, refl)

@@ -1,20 +1,20 @@
--- Document 02, P4: choosing a second point for a sheet, from a list of candidates of twelve bytes each. The sheet's own
--- second point is not looked at. Defined, in order: candidateCount, candidatesOf, wholeCheck (10), sheetChooseOf.
--- Assumes nothing.
+-- Document 02, P4: choosing a second point for a sheet, from a list of candidates of twelve bytes each. They are on the
+-- sheet's grid, and its own second point is not looked at. Defined, in order: candidateCount, candidatesOf, wholeCheck
+-- (10), sheetChooseOf. Assumes nothing.
 use mathlib.Core.Bool.{not}
 use mathlib.Core.List.{List}
 use Prim.Native.Nat.{ℕ, _*_, _/_, _%_}
 use lib.Dec.{eqb}
 use lib.IntN.{ℤ}
 use lib.ListN.{length}
-use Rattle.sphere.specs.Point.{coarse}
+use Rattle.sphere.specs.Point.{limitOf}
 use Rattle.big_endian.specs.Bytes.{intsAt}
 use Rattle.polygon.specs.declared.answer.Answer.{Answer}
 use Rattle.polygon.specs.declared.answer.Check.{Check}
 use Rattle.polygon.specs.Answer.{answerAfter}
 use Rattle.polygon.specs.Checks.{_then_, failsIf}
 use Rattle.polygon.specs.Pair.{chooseOf}
-use Rattle.sheet.specs.Fields.{fieldsCheck}
+use Rattle.sheet.specs.Fields.{gridOf, fieldsCheck}
 use Rattle.sheet.specs.Sheet.{knownOf, verticesOf}
 
 abbrev pub candidateCount : List ℕ → ℕ
@@ -32,4 +32,4 @@ wholeCheck candidates = failsIf 10 (not (eqb (length candidates % 12) 0))
 unfoldable pub sheetChooseOf : List ℕ → List ℕ → Answer
 sheetChooseOf b candidates =
     answerAfter (wholeCheck candidates then fieldsCheck b)
-    (chooseOf coarse (verticesOf b) (knownOf b) (candidatesOf candidates))
+    (chooseOf (limitOf (gridOf b)) (verticesOf b) (knownOf b) (candidatesOf candidates))

@@ -1,26 +1,35 @@
--- The promised theorems, as statements. Their proofs are in proofs/Claims. Stated, in order: WrittenReadsBack (what
--- is written reads back the same), ReadWritesBack (what is read writes back the same bytes), ReadNeverTen (reading
--- never gives 10), SheetSize (a sheet has 69 to 49,319 bytes), OctantSheet (document 01's sheet of 69 bytes, byte by
--- byte: the round trips would hold of another layout too), OctantPairSheet (the same with a second point, 84 bytes),
--- SheetAnswersAsList (judging by a sheet is judging by the list and the points in it, so that polygon's claims hold of
--- it), SheetFeedEqualsSingle (a feed by a sheet answers each query as the single call does). They are of the
--- definitions that the contracts of `read`, `load`, `write`, `judge` and `feed` cite. A second point of all zero is
--- none. Assumes nothing.
+-- The promised theorems, as statements. Their proofs are in proofs/Claims. Stated, in order: WrittenReadsBack (what is
+-- written reads back the same, on either grid), ReadWritesBack (what is read writes back the same bytes),
+-- WriteMixedExactly (28), ReadNeverTen (reading never gives 10), SheetSize (a sheet has 69 to 49,319 bytes),
+-- OctantSheet (document 01's sheet of 69 bytes, byte by byte: the round trips would hold of another layout too),
+-- OctantPairSheet (the same with a second point, 84 bytes), OctantFineSheet (the same with tag 7), SheetAnswersAsList
+-- (judging by a sheet is judging by the list and the points in it, so that polygon's claims hold of it),
+-- SheetFeedEqualsSingle (a feed by a sheet answers each query as the single call does). They are of the definitions
+-- that the contracts of `read`, `load`, `write`, `judge` and `feed` cite. A second point of all zero is none. Assumes
+-- nothing.
 use mathlib.Core.Path.{_≡_}
+use mathlib.Core.Bool.{not}
 use mathlib.Core.List.{List, [], _∷_, _++_}
 use Prim.Native.Nat.{ℕ, _≤_, _<_}
 use lib.IntN.{ℤ, pos, negsuc}
 use lib.ListN.{length, take, drop}
 use Rattle.sphere.specs.declared.point.Point.{Point}
-use Rattle.sphere.specs.Point.{coarse}
+use Rattle.sphere.specs.declared.point.Grid.{Grid}
+use Rattle.sphere.specs.declared.point.Grid.the-variants.{Coarse, Fine}
+use Rattle.sphere.specs.declared.point.GridPoint.{GridPoint}
+use Rattle.sphere.specs.Point.{limitOf}
 use Rattle.big_endian.specs.Bytes.{AreBytes}
 use Rattle.batch.specs.Feed.{noSecond}
 use Rattle.batch.specs.Claims.{Fed}
-use Rattle.polygon.specs.declared.answer.Answer.the-variants.{Done, Outside, Refused}
+use Rattle.polygon.specs.declared.answer.Answer.the-variants.{Done, Inside, Outside, Refused}
 use Rattle.polygon.specs.declared.answer.Check.the-variants.{Passed}
 use Rattle.polygon.specs.Answer.{numberOf, placeOf}
 use Rattle.polygon.specs.Vertices.{vertexCount}
+use Rattle.polygon.specs.Checks.{_then_, failsIf, listCheck}
 use Rattle.polygon.specs.Pair.{optionalCheck, calledOf}
+use Rattle.polygon.specs.Grids.{isMixed, gridOfSecond}
+use Rattle.polygon.specs.GridClaims.{Mixed, on}
+use Rattle.sheet.specs.Fields.{isCharset, isNameLength}
 use Rattle.sheet.specs.declared.read.Sheet.{Sheet}
 use Rattle.sheet.specs.Sheet.{nameAt, verticesOf, readOf}
 use Rattle.sheet.specs.Judge.{sheetAnswerOf, sheetFeedOf, sheetFedTo}
@@ -31,8 +40,8 @@ abbrev pub nameIn : Sheet → List ℕ → List ℕ
 nameIn s b = take (s .«name_len») (drop (s .«name_at») b)
 
 -- Reading the bytes b hands back these parts, and no refusal.
-pub record ReadsAs (zone charset : ℕ) (name : List ℕ) (known : Point) (vertices : List ℤ) (second : Point) (b : List ℕ)
-    : Type 0 where
+pub record ReadsAs (zone charset : ℕ) (name : List ℕ) (known : Point) (g : Grid) (vertices : List ℤ) (second : Point)
+    (b : List ℕ) : Type 0 where
   pub handed-back : readOf b ≡ record {
     answer = Done (length b);
     zone = zone;
@@ -42,6 +51,7 @@ pub record ReadsAs (zone charset : ℕ) (name : List ℕ) (known : Point) (verti
     known = known;
     «vertex_count» = vertexCount vertices;
     second = second;
+    grid = g;
   }
   pub same-name : nameIn (readOf b) b ≡ name
   pub same-vertices : verticesOf b ≡ vertices
@@ -49,19 +59,30 @@ pub record ReadsAs (zone charset : ℕ) (name : List ℕ) (known : Point) (verti
 -- After a successful write, reading exactly the bytes written. The place of success is how many they are.
 abbrev pub WrittenReadsBack : Type 0
 WrittenReadsBack =
-    (zone charset : ℕ) (name : List ℕ) (known : Point) (vertices : List ℤ) (second : Point) (buffer : List ℕ) →
-    zone < 4294967296 → numberOf (writeOf charset name known vertices second (length buffer)) ≡ 0 →
-    ReadsAs zone charset name known vertices second
-    (take (placeOf (writeOf charset name known vertices second (length buffer)))
-    (writtenTo zone charset name known vertices second buffer))
+    (zone charset : ℕ) (name : List ℕ) (known : GridPoint) (g : Grid) (vertices : List ℤ) (second : GridPoint)
+    (buffer : List ℕ) →
+    zone < 4294967296 → numberOf (writeOf charset name known g vertices second (length buffer)) ≡ 0 →
+    ReadsAs zone charset name (known .point) g vertices (second .point)
+    (take (placeOf (writeOf charset name known g vertices second (length buffer)))
+    (writtenTo zone charset name known g vertices second buffer))
 
 -- After a successful read, writing what was read into a buffer of as many bytes.
 abbrev pub ReadWritesBack : Type 0
 ReadWritesBack =
     (b buffer : List ℕ) → AreBytes b → numberOf (readOf b .answer) ≡ 0 → length buffer ≡ length b →
     let s = readOf b in
-    (writeOf (s .charset) (nameIn s b) (s .known) (verticesOf b) (s .second) (length buffer) ≡ Done (length b))
-    × (writtenTo (s .zone) (s .charset) (nameIn s b) (s .known) (verticesOf b) (s .second) buffer ≡ b)
+    let known = on (s .grid) (s .known) in
+    let second = on (s .grid) (s .second) in
+    (writeOf (s .charset) (nameIn s b) known (s .grid) (verticesOf b) second (length buffer) ≡ Done (length b))
+    × (writtenTo (s .zone) (s .charset) (nameIn s b) known (s .grid) (verticesOf b) second buffer ≡ b)
+
+-- Writing on mixed grids is refused with 28, exactly if 23, 22 and 10 do not hold.
+abbrev pub WriteMixedExactly : Type 0
+WriteMixedExactly =
+    (charset : ℕ) (name : List ℕ) (known : GridPoint) (g : Grid) (vertices : List ℤ) (second : GridPoint) (room : ℕ) →
+    Mixed (writeOf charset name known g vertices second room)
+    (failsIf 23 (not (isCharset charset)) then failsIf 22 (not (isNameLength (length name))) then listCheck vertices)
+    (isMixed g (known .grid ∷ gridOfSecond g second ∷ []))
 
 -- A list that is too short or too long is refused by its length, 22.
 abbrev pub ReadNeverTen : Type 0
@@ -82,41 +103,54 @@ abbrev coordinates : List ℕ → List ℕ
 coordinates [] = []
 coordinates (n ∷ ns) = 0 ∷ 0 ∷ 0 ∷ n ∷ coordinates ns
 
-unfoldable pub octantBytes : List ℕ
-octantBytes =
+-- With the tag of its vertices.
+unfoldable pub octantBytes : ℕ → List ℕ
+octantBytes tag =
     (1 ∷ 0 ∷ 4 ∷ 0 ∷ 0 ∷ 0 ∷ 7 ∷ [])
     ++ ((2 ∷ 0 ∷ 1 ∷ 1 ∷ [])
     ++ ((3 ∷ 0 ∷ 1 ∷ 65 ∷ [])
     ++ ((4 ∷ 0 ∷ 12 ∷ coordinates (1 ∷ 1 ∷ 1 ∷ []))
-    ++ (5 ∷ 0 ∷ 36 ∷ coordinates (1 ∷ 0 ∷ 0 ∷ 0 ∷ 1 ∷ 0 ∷ 0 ∷ 0 ∷ 1 ∷ [])))))
+    ++ (tag ∷ 0 ∷ 36 ∷ coordinates (1 ∷ 0 ∷ 0 ∷ 0 ∷ 1 ∷ 0 ∷ 0 ∷ 0 ∷ 1 ∷ [])))))
 
 abbrev pub OctantSheet : Type 0
-OctantSheet = sheetBytes 7 1 (65 ∷ []) centre octant noSecond ≡ octantBytes
+OctantSheet = sheetBytes 7 1 (65 ∷ []) centre Coarse octant noSecond ≡ octantBytes 5
 
 -- The same with the second point (1,1,2), which passes: the sheet reads, and K8, opposite the known point, is judged.
 abbrev second : Point
 second = record { x = pos 1; y = pos 1; z = pos 2 }
 
 unfoldable pub octantPairBytes : List ℕ
-octantPairBytes = octantBytes ++ (6 ∷ 0 ∷ 12 ∷ coordinates (1 ∷ 1 ∷ 2 ∷ []))
+octantPairBytes = octantBytes 5 ++ (6 ∷ 0 ∷ 12 ∷ coordinates (1 ∷ 1 ∷ 2 ∷ []))
 
 abbrev farthest : Point
 farthest = record { x = negsuc 0; y = negsuc 0; z = negsuc 0 }
 
 abbrev pub OctantPairSheet : Type 0
 OctantPairSheet =
-    (sheetBytes 7 1 (65 ∷ []) centre octant second ≡ octantPairBytes)
+    (sheetBytes 7 1 (65 ∷ []) centre Coarse octant second ≡ octantPairBytes)
     × (readOf octantPairBytes .answer ≡ Done 84)
-    × (sheetAnswerOf octantBytes farthest ≡ Refused 18 0)
+    × (sheetAnswerOf (octantBytes 5) farthest ≡ Refused 18 0)
     × (sheetAnswerOf octantPairBytes farthest ≡ Outside 1 (negsuc 0))
+
+-- The same octant on the fine grid: tag 7 in place of 5. A query beyond the coarse grid is judged by it.
+abbrev beyond : Point
+beyond = record { x = pos 1048577; y = pos 1; z = pos 1 }
+
+abbrev pub OctantFineSheet : Type 0
+OctantFineSheet =
+    (sheetBytes 7 1 (65 ∷ []) centre Fine octant noSecond ≡ octantBytes 7)
+    × (readOf (octantBytes 7) .answer ≡ Done 69)
+    × (readOf (octantBytes 7) .grid ≡ Fine)
+    × (sheetAnswerOf (octantBytes 5) beyond ≡ Refused 17 0)
+    × (sheetAnswerOf (octantBytes 7) beyond ≡ Inside 0 (pos 0))
 
 -- With the parts of a sheet that was read: they are accepted, and the answer is theirs.
 abbrev pub SheetAnswersAsList : Type 0
 SheetAnswersAsList =
     (b : List ℕ) (P : Point) → numberOf (readOf b .answer) ≡ 0 →
     let s = readOf b in
-    (optionalCheck coarse (verticesOf b) (s .known) (s .second) ≡ Passed)
-    × (sheetAnswerOf b P ≡ calledOf coarse (verticesOf b) (s .known) (s .second) P)
+    (optionalCheck (limitOf (s .grid)) (verticesOf b) (s .known) (s .second) ≡ Passed)
+    × (sheetAnswerOf b P ≡ calledOf (limitOf (s .grid)) (verticesOf b) (s .known) (s .second) P)
 
 -- After a feed that succeeds the result buffer holds what the single call by the sheet answers to each query.
 abbrev pub SheetFeedEqualsSingle : Type 0

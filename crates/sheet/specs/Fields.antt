@@ -1,14 +1,16 @@
 -- Document 01, 'The zone sheet', first layer: the fields, by bytes alone. Refusals 20 to 24, each with its place.
 -- Defined, in order: isAllowed, fieldEnd, fieldCheck (one field: 20, 21, 22, 20); charsetStart, nameStart,
--- knownStart, verticesStart, secondStart, hasSecond, sheetEnd; zoneCheck, isCharset, charsetCheck, isNameLength,
--- nameCheck, knownCheck, verticesCheck, fiveFields; secondField (document 02, P4: tag 6, which may be missing),
--- sheetFields (20 to 23), restCheck (24), fieldsCheck. A field begins at its tag. What the fields mean is in
--- specs/Sheet. Assumes nothing.
+-- knownStart, verticesStart, gridAt, gridOf, tagOf (document 02, P8), secondStart, hasSecond, sheetEnd; zoneCheck,
+-- isCharset, charsetCheck, isNameLength, nameCheck, knownCheck, verticesCheck, fiveFields; secondField (document 02,
+-- P4: tag 6, which may be missing), sheetFields (20 to 23), restCheck (24), fieldsCheck. A field begins at its tag.
+-- What the fields mean is in specs/Sheet. Assumes nothing.
 use mathlib.Core.Bool.{Bool, not, _&&_, cond}
 use mathlib.Core.List.{List}
 use Prim.Native.Nat.{ℕ, _+_, _%_}
 use lib.Dec.{eqb, leb, ltb}
 use lib.ListN.{length}
+use Rattle.sphere.specs.declared.point.Grid.{Grid}
+use Rattle.sphere.specs.declared.point.Grid.the-variants.{Coarse, Fine}
 use Rattle.big_endian.specs.Bytes.{byteAt, shortAt}
 use Rattle.polygon.specs.declared.answer.Check.{Check}
 use Rattle.polygon.specs.declared.answer.Check.the-variants.{Passed}
@@ -46,8 +48,19 @@ knownStart b = fieldEnd b nameStart
 abbrev pub verticesStart : List ℕ → ℕ
 verticesStart b = knownStart b + 15
 
--- Where the second point's field begins, if there is one: a byte 6 after the vertices starts it. (A byte past the end
--- of the list reads as 0.)
+-- The grid (document 02, P8): a byte 7 in place of the 5 that starts the vertices' field says that the points of this
+-- sheet, those of tags 4 and 6 too, are on the fine one. (A byte past the end of the list reads as 0.)
+unfoldable pub gridAt : List ℕ → ℕ → Grid
+gridAt b at = cond (eqb (byteAt b at) 7) Fine Coarse
+
+abbrev pub gridOf : List ℕ → Grid
+gridOf b = gridAt b (verticesStart b)
+
+abbrev pub tagOf : Grid → ℕ
+tagOf Coarse = 5
+tagOf Fine = 7
+
+-- Where the second point's field begins, if there is one: a byte 6 after the vertices starts it.
 abbrev pub secondStart : List ℕ → ℕ
 secondStart b = fieldEnd b (verticesStart b)
 
@@ -81,7 +94,7 @@ abbrev pub knownCheck : List ℕ → Check
 knownCheck b = fieldCheck 4 (isAllowed 12 12 1) b (knownStart b)
 
 abbrev pub verticesCheck : List ℕ → Check
-verticesCheck b = fieldCheck 5 (isAllowed 36 49152 12) b (verticesStart b)
+verticesCheck b = fieldCheck (tagOf (gridOf b)) (isAllowed 36 49152 12) b (verticesStart b)
 
 unfoldable pub fiveFields : List ℕ → Check
 fiveFields b = zoneCheck b then charsetCheck b then nameCheck b then knownCheck b then verticesCheck b

@@ -1,12 +1,13 @@
 -- Judging by a sheet's bytes: one query, and a feed of them (document 02, P1). A bad sheet gives that sheet's refusal,
 -- and a query opposite the known point is judged from the second point, if the sheet has one (document 02, P4).
 -- Defined, in order: sheetAnswerOf, sheetLookedOf, sheetJudgementOf; sheetFeedCheck (26 and 27 come before 20),
--- sheetFeedOf, sheetFedTo. Document 01, 'The zone sheet', on the importer's calls. Assumes nothing.
+-- sheetFeedOf, sheetFedTo. Document 01, 'The zone sheet', on the importer's calls. Queries are on their sheet's grid
+-- (document 02, P8). Assumes nothing.
 use mathlib.Core.List.{List}
 use Prim.Native.Nat.{ℕ}
 use lib.ListN.{length}
 use Rattle.sphere.specs.declared.point.Point.{Point}
-use Rattle.sphere.specs.Point.{coarse}
+use Rattle.sphere.specs.Point.{limitOf}
 use Rattle.polygon.specs.declared.answer.Answer.{Answer}
 use Rattle.polygon.specs.declared.answer.Answer.the-variants.{Done}
 use Rattle.polygon.specs.declared.answer.Check.{Check}
@@ -18,16 +19,17 @@ use Rattle.judging.specs.declared.judge.Judgement.{Judgement}
 use Rattle.judging.specs.Walk.{lookedAfter, lookedOf}
 use Rattle.batch.specs.Buffer.{bufferAfter}
 use Rattle.batch.specs.Feed.{sizeCheck, feedBytes}
+use Rattle.sheet.specs.Fields.{gridOf}
 use Rattle.sheet.specs.Sheet.{knownOf, verticesOf, secondOf, sheetCheck}
 
 unfoldable pub sheetAnswerOf : List ℕ → Point → Answer
 sheetAnswerOf b P =
-    answerAfter (sheetCheck b) (answerOf coarse (verticesOf b) (judgeFrom (knownOf b) (secondOf b) P) P)
+    answerAfter (sheetCheck b) (answerOf (limitOf (gridOf b)) (verticesOf b) (judgeFrom (knownOf b) (secondOf b) P) P)
 
 -- How many edges were looked at for it (document 02, P2), and both together.
 unfoldable pub sheetLookedOf : List ℕ → Point → ℕ
 sheetLookedOf b P =
-    lookedAfter (sheetCheck b) (lookedOf coarse (verticesOf b) (judgeFrom (knownOf b) (secondOf b) P) P)
+    lookedAfter (sheetCheck b) (lookedOf (limitOf (gridOf b)) (verticesOf b) (judgeFrom (knownOf b) (secondOf b) P) P)
 
 unfoldable pub sheetJudgementOf : List ℕ → Point → Judgement
 sheetJudgementOf b P = record { answer = sheetAnswerOf b P; looked = sheetLookedOf b P }
@@ -43,4 +45,4 @@ sheetFeedOf b queries room = answerAfter (sheetFeedCheck b queries room) (Done 0
 unfoldable pub sheetFedTo : List ℕ → List ℕ → List ℕ → List ℕ
 sheetFedTo b queries buffer =
     bufferAfter (sheetFeedCheck b queries (length buffer))
-    (feedBytes coarse (verticesOf b) (knownOf b) (secondOf b) queries) buffer
+    (feedBytes (limitOf (gridOf b)) (verticesOf b) (knownOf b) (secondOf b) queries) buffer

@@ -8,7 +8,8 @@ use Prim.Native.Nat.{ℕ, _+_, _*_, _-_, _/_}
 use lib.IntN.{ℤ, pos}
 use lib.ListN.{length, take, drop}
 use Rattle.sphere.specs.declared.point.Point.{Point}
-use Rattle.sphere.specs.Point.{coarse}
+use Rattle.sphere.specs.declared.point.Grid.the-variants.{Coarse}
+use Rattle.sphere.specs.Point.{limitOf}
 use Rattle.big_endian.specs.Bytes.{byteAt, shortAt, wordAt, pointAt, intsAt}
 use Rattle.polygon.specs.declared.answer.Answer.the-variants.{Done, Refused}
 use Rattle.polygon.specs.declared.answer.Check.{Check}
@@ -17,8 +18,8 @@ use Rattle.polygon.specs.Checks.{_then_, acceptCheck}
 use Rattle.polygon.specs.Pair.{secondCheck}
 use Rattle.batch.specs.Feed.{noSecond}
 use Rattle.sheet.specs.declared.read.Sheet.{Sheet}
-use Rattle.sheet.specs.Fields.{charsetStart, nameStart, knownStart, verticesStart, secondStart, hasSecond}
-use Rattle.sheet.specs.Fields.{fieldsCheck}
+use Rattle.sheet.specs.Fields.{charsetStart, nameStart, knownStart, verticesStart, gridOf, secondStart}
+use Rattle.sheet.specs.Fields.{hasSecond, fieldsCheck}
 
 -- ---- the parts
 
@@ -55,16 +56,16 @@ secondOf b = cond (hasSecond b) (pointAt b (secondStart b + 3)) noSecond
 
 -- A sheet without regard to its second point.
 unfoldable pub plainCheck : List ℕ → Check
-plainCheck b = fieldsCheck b then acceptCheck coarse (verticesOf b) (knownOf b)
+plainCheck b = fieldsCheck b then acceptCheck (limitOf (gridOf b)) (verticesOf b) (knownOf b)
 
 -- The second point, where the field is there: one of all zero fails too.
 unfoldable pub carriedCheck : List ℕ → Check
-carriedCheck b = cond (hasSecond b) (secondCheck coarse (verticesOf b) (knownOf b) (secondOf b)) Passed
+carriedCheck b = cond (hasSecond b) (secondCheck (limitOf (gridOf b)) (verticesOf b) (knownOf b) (secondOf b)) Passed
 
 unfoldable pub sheetCheck : List ℕ → Check
 sheetCheck b = plainCheck b then carriedCheck b
 
--- A refusal, and zeros beside it.
+-- A refusal, and zeros beside it; the coarse grid is the number 0.
 abbrev pub refusedSheet : ℕ → ℕ → Sheet
 refusedSheet number place = record {
   answer = Refused number place;
@@ -75,6 +76,7 @@ refusedSheet number place = record {
   known = record { x = pos 0; y = pos 0; z = pos 0 };
   «vertex_count» = 0;
   second = noSecond;
+  grid = Coarse;
 }
 
 abbrev pub readAfter : Check → List ℕ → Sheet
@@ -88,6 +90,7 @@ readAfter Passed b = record {
   known = knownOf b;
   «vertex_count» = vertexCountOf b;
   second = secondOf b;
+  grid = gridOf b;
 }
 
 -- What reading hands back of any bytes.

@@ -1,7 +1,7 @@
 -- Document 01, 'The zone sheet': the bytes of a sheet, and what writing one does on every input.
--- Defined, in order: fieldBytes, secondBytes, secondSize, sheetBytes, neededFor, Storable; inputCheck (23, 22, 10 to
--- 16, 19), writeCheck (25 too), writeOf, writtenTo. A second point of all zero is none (document 02, P4). Assumes
--- nothing.
+-- Defined, in order: fieldBytes, secondBytes, secondSize, sheetBytes, neededFor, Storable; inputCheck (23, 22, 10,
+-- 28, 11 to 16, 19), writeCheck (25 too), writeOf, writtenTo. A second point of all zero is none (document 02, P4), and
+-- has no grid (P8). Assumes nothing.
 use mathlib.Core.Bool.{not, cond}
 use mathlib.Core.List.{List, [], _∷_, _++_}
 use Prim.Native.Nat.{ℕ, _+_, _*_, _≤_, _<_}
@@ -9,7 +9,9 @@ use lib.Dec.{ltb}
 use lib.IntN.{ℤ}
 use lib.ListN.{length}
 use Rattle.sphere.specs.declared.point.Point.{Point}
-use Rattle.sphere.specs.Point.{coarse, Within, isNull}
+use Rattle.sphere.specs.declared.point.Grid.{Grid}
+use Rattle.sphere.specs.declared.point.GridPoint.{GridPoint}
+use Rattle.sphere.specs.Point.{limitOf, Within, isNull}
 use Rattle.big_endian.specs.Bytes.{shortBytes, wordBytes, intsBytes, pointBytes}
 use Rattle.polygon.specs.declared.answer.Answer.{Answer}
 use Rattle.polygon.specs.declared.answer.Answer.the-variants.{Done}
@@ -17,8 +19,9 @@ use Rattle.polygon.specs.declared.answer.Check.{Check}
 use Rattle.polygon.specs.Answer.{answerAfter}
 use Rattle.polygon.specs.Checks.{_then_, failsHere, failsIf}
 use Rattle.polygon.specs.Pair.{optionalCheck}
+use Rattle.polygon.specs.Grids.{isMixed, gridCheck, gridOfSecond}
 use Rattle.batch.specs.Buffer.{bufferAfter}
-use Rattle.sheet.specs.Fields.{isCharset, isNameLength}
+use Rattle.sheet.specs.Fields.{tagOf, isCharset, isNameLength}
 
 -- A field: its tag, its length, its body.
 unfoldable pub fieldBytes : ℕ → List ℕ → List ℕ
@@ -31,13 +34,13 @@ secondBytes second = cond (isNull second) [] (fieldBytes 6 (pointBytes second))
 unfoldable pub secondSize : Point → ℕ
 secondSize second = cond (isNull second) 0 15
 
--- A sheet: zone number, character set, name, known point, vertices, and the second point if there is one.
-unfoldable pub sheetBytes : ℕ → ℕ → List ℕ → Point → List ℤ → Point → List ℕ
-sheetBytes zone charset name known vertices second =
+-- A sheet: zone number, character set, name, known point, vertices on the grid g, and the second point if there is one.
+unfoldable pub sheetBytes : ℕ → ℕ → List ℕ → Point → Grid → List ℤ → Point → List ℕ
+sheetBytes zone charset name known g vertices second =
     fieldBytes 1 (wordBytes zone)
     ++ (fieldBytes 2 (charset ∷ [])
     ++ (fieldBytes 3 name
-    ++ (fieldBytes 4 (pointBytes known) ++ (fieldBytes 5 (intsBytes vertices) ++ secondBytes second))))
+    ++ (fieldBytes 4 (pointBytes known) ++ (fieldBytes (tagOf g) (intsBytes vertices) ++ secondBytes second))))
 
 -- The bytes that it takes: 32 beside the name, the vertices and the second point.
 abbrev pub neededFor : List ℕ → List ℤ → Point → ℕ
@@ -55,23 +58,24 @@ pub record Storable (charset : ℕ) (name : List ℕ) (known : Point) (vertices 
 
 -- ---- writing into `room` bytes
 
-unfoldable pub inputCheck : ℕ → List ℕ → Point → List ℤ → Point → Check
-inputCheck charset name known vertices second =
+unfoldable pub inputCheck : ℕ → List ℕ → GridPoint → Grid → List ℤ → GridPoint → Check
+inputCheck charset name known g vertices second =
     failsIf 23 (not (isCharset charset))
     then failsIf 22 (not (isNameLength (length name)))
-    then optionalCheck coarse vertices known second
+    then gridCheck vertices (isMixed g (known .grid ∷ gridOfSecond g second ∷ []))
+    then optionalCheck (limitOf g) vertices (known .point) (second .point)
 
-unfoldable pub writeCheck : ℕ → List ℕ → Point → List ℤ → Point → ℕ → Check
-writeCheck charset name known vertices second room =
-    inputCheck charset name known vertices second
-    then failsHere 25 (neededFor name vertices second) (ltb room (neededFor name vertices second))
+unfoldable pub writeCheck : ℕ → List ℕ → GridPoint → Grid → List ℤ → GridPoint → ℕ → Check
+writeCheck charset name known g vertices second room =
+    inputCheck charset name known g vertices second
+    then failsHere 25 (neededFor name vertices (second .point)) (ltb room (neededFor name vertices (second .point)))
 
-unfoldable pub writeOf : ℕ → List ℕ → Point → List ℤ → Point → ℕ → Answer
-writeOf charset name known vertices second room =
-    answerAfter (writeCheck charset name known vertices second room) (Done (neededFor name vertices second))
+unfoldable pub writeOf : ℕ → List ℕ → GridPoint → Grid → List ℤ → GridPoint → ℕ → Answer
+writeOf charset name known g vertices second room =
+    answerAfter (writeCheck charset name known g vertices second room) (Done (neededFor name vertices (second .point)))
 
 -- The buffer after the call.
-unfoldable pub writtenTo : ℕ → ℕ → List ℕ → Point → List ℤ → Point → List ℕ → List ℕ
-writtenTo zone charset name known vertices second buffer =
-    bufferAfter (writeCheck charset name known vertices second (length buffer))
-    (sheetBytes zone charset name known vertices second) buffer
+unfoldable pub writtenTo : ℕ → ℕ → List ℕ → GridPoint → Grid → List ℤ → GridPoint → List ℕ → List ℕ
+writtenTo zone charset name known g vertices second buffer =
+    bufferAfter (writeCheck charset name known g vertices second (length buffer))
+    (sheetBytes zone charset name (known .point) g vertices (second .point)) buffer

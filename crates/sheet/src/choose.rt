@@ -3,13 +3,14 @@
 // number of them: they are decoded one at a time. Assumes nothing.
 ghost use mathlib.Core.Path.{_≡_};
 ghost use Prim.Native.Nat.{_<_};
-ghost use Rattle.sphere.specs.Point.{coarse};
+ghost use Rattle.sphere.specs.Point.{limitOf};
 ghost use Rattle.polygon.specs.declared.answer.Check.the-variants.{Passed};
 ghost use Rattle.polygon.specs.Vertices.{vertexAt};
 ghost use Rattle.polygon.specs.Checks.{acceptCheck};
 ghost use Rattle.polygon.specs.Pair.{chooseOf};
 ghost use Rattle.judging.specs.Boxes.{Boxed};
 ghost use Rattle.sheet.specs.Choose.{candidateCount, candidatesOf, sheetChooseOf};
+use crate::fields;
 use crate::open;
 use big_endian::read;
 use judging::boxes;
@@ -27,19 +28,14 @@ fn candidate_at(candidates: &[u8], i: usize) -> Point
 }
 
 // The earliest candidate that passes, for a polygon that is accepted, with its boxes.
-fn earliest(vertices: &[i32], boxes: &[i32], known: Point, candidates: &[u8]) -> Answer
-    requires { ⌜ (acceptCheck coarse (now vertices) known ≡ Passed) × Boxed (now vertices) (now boxes) ⌝ }
-    ensures { λ r. ⌜ r ≡ chooseOf coarse (now (vertices .entry)) known (candidatesOf (now (candidates .entry))) ⌝ }
+fn earliest(grid: Grid, vertices: &[i32], boxes: &[i32], known: Point, candidates: &[u8]) -> Answer
+    requires { ⌜ (acceptCheck (limitOf grid) (now vertices) known ≡ Passed) × Boxed (now vertices) (now boxes) ⌝ }
+    ensures { λ r. ⌜ r ≡ chooseOf (limitOf grid) (now (vertices .entry)) known
+        (candidatesOf (now (candidates .entry))) ⌝ }
 {
     let n = candidates.len() / 12;
     for i in 0..n {
-        if is_second(
-            Grid::Coarse,
-            vertices,
-            boxes,
-            known,
-            candidate_at(candidates, i),
-        ) {
+        if is_second(grid, vertices, boxes, known, candidate_at(candidates, i)) {
             return Answer::Done(i);
         }
     }
@@ -47,13 +43,14 @@ fn earliest(vertices: &[i32], boxes: &[i32], known: Point, candidates: &[u8]) ->
 }
 
 // The boxes are built once for all candidates.
-fn first_second(vertices: &[i32], known: Point, candidates: &[u8]) -> Answer
-    requires { ⌜ acceptCheck coarse (now vertices) known ≡ Passed ⌝ }
-    ensures { λ r. ⌜ r ≡ chooseOf coarse (now (vertices .entry)) known (candidatesOf (now (candidates .entry))) ⌝ }
+fn first_second(grid: Grid, vertices: &[i32], known: Point, candidates: &[u8]) -> Answer
+    requires { ⌜ acceptCheck (limitOf grid) (now vertices) known ≡ Passed ⌝ }
+    ensures { λ r. ⌜ r ≡ chooseOf (limitOf grid) (now (vertices .entry)) known
+        (candidatesOf (now (candidates .entry))) ⌝ }
 {
     let mut boxes = [0i32; 768];
     boxes::fill(vertices, &mut boxes);
-    earliest(vertices, &boxes, known, candidates)
+    earliest(grid, vertices, &boxes, known, candidates)
 }
 
 // The earliest candidate that passes beside the sheet's known point. The sheet's own second point is not looked at.
@@ -67,7 +64,12 @@ pub fn choose(b: &[u8], candidates: &[u8]) -> Answer
     match open::open_plain(b, &mut scratch) {
         Check::Passed => {
             let size = open::vertex_count(b) * 3;
-            first_second(&scratch[..size], open::known_point(b), candidates)
+            first_second(
+                fields::grid(b),
+                &scratch[..size],
+                open::known_point(b),
+                candidates,
+            )
         }
         Check::Failed(number, place) => Answer::Refused(number, place),
     }

@@ -3,13 +3,13 @@
 ghost use mathlib.Core.Path.{_≡_};
 ghost use lib.ListN.{length};
 ghost use Rattle.sheet.specs.Judge.{sheetFeedCheck, sheetFeedOf, sheetFedTo};
+use crate::fields;
 use crate::open;
 use crate::read::sheet_check;
 use batch::feed::judge_all;
 use batch::feed::size_check;
 use polygon::answer::Answer;
 use polygon::answer::Check;
-use sphere::point::Grid;
 
 // All that is checked once for a feed, with `room` bytes for its results.
 pub fn feed_check(sheet: &[u8], queries: &[u8], room: usize) -> Check
@@ -51,7 +51,7 @@ pub fn feed(sheet: &[u8], queries: &[u8], results: &mut [u8]) -> Answer
     let known = open::known_point(sheet);
     let second = open::second_point(sheet);
     judge_all(
-        Grid::Coarse,
+        fields::grid(sheet),
         &scratch[..size],
         known,
         second,

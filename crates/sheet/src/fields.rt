@@ -1,16 +1,19 @@
 // The fields of a sheet, by bytes alone: refusals 20 to 24 with their places.
-// Here, in order: is_allowed, field_check (one field), is_charset, charset_check, known_start, five_fields,
-// vertices_start, second_start, has_second, second_field, sheet_fields (20 to 23), sheet_end, fields_check (20 to 24).
+// Here, in order: is_allowed, field_check (one field), is_charset, charset_check, known_start, grid_at, tag,
+// five_fields, vertices_start, grid, second_start, has_second, second_field, sheet_fields (20 to 23), sheet_end,
+// fields_check (20 to 24).
 // A later field is looked at only where those before it have passed. Assumes nothing.
 ghost use mathlib.Core.Path.{_≡_};
 ghost use Prim.Native.Nat.{_+_, _≤_, _<_};
 ghost use lib.ListN.{length};
 ghost use Rattle.polygon.specs.declared.answer.Check.the-variants.{Passed};
-ghost use Rattle.sheet.specs.Fields.{isAllowed, fieldCheck, knownStart, verticesStart, secondStart, hasSecond};
+ghost use Rattle.sheet.specs.Fields.{isAllowed, fieldCheck, knownStart, verticesStart, gridAt, gridOf, tagOf};
+ghost use Rattle.sheet.specs.Fields.{secondStart, hasSecond};
 ghost use Rattle.sheet.specs.Fields.{sheetEnd, isCharset, charsetCheck, fiveFields, secondField, sheetFields};
 ghost use Rattle.sheet.specs.Fields.{fieldsCheck};
 use big_endian::read;
 use polygon::answer::Check;
+use sphere::point::Grid;
 
 // Where the fields begin that always begin at one place.
 pub const CHARSET_START: usize = 7;
@@ -84,6 +87,28 @@ pub fn known_start(b: &[u8]) -> usize
     NAME_START + 3 + read::short_at(b, NAME_START + 1) as usize
 }
 
+// Document 02, P8: 7 in place of 5 says that the sheet is on the fine grid.
+fn grid_at(b: &[u8], at: usize) -> Grid
+    ensures { λ r. ⌜ r ≡ gridAt (now (b .entry)) at ⌝ }
+{
+    if at < b.len() {
+        if b[at] == 7 {
+            return Grid::Fine;
+        }
+    }
+    Grid::Coarse
+}
+
+// The tag of the vertices.
+pub fn tag(grid: Grid) -> u8
+    ensures { λ r. ⌜ r ≡ tagOf grid ⌝ }
+{
+    match grid {
+        Grid::Coarse => 5,
+        Grid::Fine => 7,
+    }
+}
+
 // The five fields that every sheet has, in order. Bytes may follow.
 fn five_fields(b: &[u8]) -> Check
     ensures { λ r. ⌜ r ≡ fiveFields (now (b .entry)) ⌝ }
@@ -101,7 +126,8 @@ fn five_fields(b: &[u8]) -> Check
     if let Check::Failed(number, place) = field_check(b, known, 4, 12, 12, 1) {
         return Check::Failed(number, place);
     }
-    field_check(b, known + 15, 5, 36, 49152, 12)
+    let at = known + 15;
+    field_check(b, at, tag(grid_at(b, at)), 36, 49152, 12)
 }
 
 // Where the field of the vertices begins.
@@ -110,6 +136,14 @@ pub fn vertices_start(b: &[u8]) -> usize
     ensures { λ r. ⌜ (r ≡ verticesStart (now (b .entry))) × (r + 39 ≤ length (now (b .entry))) ⌝ }
 {
     known_start(b) + 15
+}
+
+// The grid of the sheet's points.
+pub fn grid(b: &[u8]) -> Grid
+    requires { ⌜ fiveFields (now b) ≡ Passed ⌝ }
+    ensures { λ r. ⌜ r ≡ gridOf (now (b .entry)) ⌝ }
+{
+    grid_at(b, vertices_start(b))
 }
 
 // Where the vertices end. The second point's field begins there, if there is one.

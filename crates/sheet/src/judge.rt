@@ -6,13 +6,13 @@ ghost use Prim.Native.Nat.{_≤_};
 ghost use lib.ListN.{length};
 ghost use Rattle.sheet.specs.Sheet.{roomFor, decodedOf};
 ghost use Rattle.sheet.specs.Judge.{sheetAnswerOf, sheetLookedOf, sheetJudgementOf};
+use crate::fields;
 use crate::open;
 use judging::judge::Judgement;
 use judging::judge::refused;
 use judging::pair::judge_called;
 use polygon::answer::Answer;
 use polygon::answer::Check;
-use sphere::point::Grid;
 use sphere::point::Point;
 
 // The vertices are decoded to the front of `scratch`.
@@ -25,7 +25,7 @@ fn judgement_in(b: &[u8], query: Point, scratch: &mut [i32]) -> Judgement
         Check::Passed => {
             let size = open::vertex_count(b) * 3;
             judge_called(
-                Grid::Coarse,
+                fields::grid(b),
                 &scratch[..size],
                 open::known_point(b),
                 open::second_point(b),

@@ -15,7 +15,6 @@ use big_endian::read;
 use judging::pair;
 use polygon::answer::Check;
 use polygon::checks;
-use sphere::point::Grid;
 use sphere::point::Point;
 
 pub fn vertex_count(b: &[u8]) -> usize
@@ -64,7 +63,7 @@ fn plain_into(b: &[u8], scratch: &mut [i32]) -> Check
     let n = vertex_count(b);
     decode_vertices(b, n, scratch);
     let size = n * 3;
-    checks::accept_check(Grid::Coarse, &scratch[..size], known_point(b))
+    checks::accept_check(fields::grid(b), &scratch[..size], known_point(b))
 }
 
 // The second point beside the known one, if there is a second.
@@ -73,7 +72,7 @@ fn carried_check(b: &[u8], vertices: &[i32]) -> Check
     ensures { λ r. ⌜ r ≡ carriedCheck (now (b .entry)) ⌝ }
 {
     if fields::has_second(b) {
-        return pair::second_check(Grid::Coarse, vertices, known_point(b), second_point(b));
+        return pair::second_check(fields::grid(b), vertices, known_point(b), second_point(b));
     }
     Check::Passed
 }

@@ -8,10 +8,11 @@ use crate::open;
 use big_endian::read;
 use polygon::answer::Answer;
 use polygon::answer::Check;
+use sphere::point::Grid;
 use sphere::point::Point;
 
-// What reading hands back: document 01's answer, and the parts of the sheet, all zero on a refusal. The second point is
-// all zero too where the sheet has none.
+// What reading hands back: document 01's answer, and the parts of the sheet, all zero on a refusal, and the coarse
+// grid. The second point is all zero too where the sheet has none.
 pub struct Sheet {
     pub answer: Answer,
     pub zone: u32,
@@ -21,6 +22,7 @@ pub struct Sheet {
     pub known: Point,
     pub vertex_count: usize,
     pub second: Point,
+    pub grid: Grid,
 }
 
 fn refused(number: u32, place: usize) -> Sheet
@@ -35,6 +37,7 @@ fn refused(number: u32, place: usize) -> Sheet
         known: Point { x: 0, y: 0, z: 0 },
         vertex_count: 0,
         second: Point { x: 0, y: 0, z: 0 },
+        grid: Grid::Coarse,
     }
 }
 
@@ -52,6 +55,7 @@ fn accepted(b: &[u8]) -> Sheet
         known: open::known_point(b),
         vertex_count: open::vertex_count(b),
         second: open::second_point(b),
+        grid: fields::grid(b),
     }
 }
 

@@ -8,8 +8,11 @@ ghost use lib.ListN.{length};
 ghost use lib.Seq.{sets};
 ghost use Rattle.sphere.specs.Point.{Within};
 ghost use Rattle.big_endian.specs.Bytes.{shortBytes, wordBytes, intsBytes, pointBytes};
+ghost use Rattle.sheet.specs.Fields.{tagOf};
 ghost use Rattle.sheet.specs.Write.{fieldBytes, secondBytes, secondSize, sheetBytes, Storable};
+use crate::fields::tag;
 use big_endian::store;
+use sphere::point::Grid;
 use sphere::point::Point;
 use sphere::point::is_null;
 
@@ -55,11 +58,12 @@ fn put_place(b: &mut [u8], at: usize, tag: u8, p: Point)
     store::put_point(b, at + 3, p)
 }
 
-fn put_vertices(b: &mut [u8], at: usize, vertices: &[i32])
+fn put_vertices(b: &mut [u8], at: usize, grid: Grid, vertices: &[i32])
     requires { ⌜ (at + 3 + length (now vertices) * 4 ≤ length (now b)) × (length (now vertices) ≤ 12288) ⌝ }
-    ensures { λ _. ⌜ now (b .exit) ≡ sets (now (b .entry)) at (fieldBytes 5 (intsBytes (now (vertices .entry)))) ⌝ }
+    ensures { λ _. ⌜ now (b .exit)
+        ≡ sets (now (b .entry)) at (fieldBytes (tagOf grid) (intsBytes (now (vertices .entry)))) ⌝ }
 {
-    put_head(b, at, 5, vertices.len() as u32 * 4);
+    put_head(b, at, tag(grid), vertices.len() as u32 * 4);
     store::put_ints(b, at + 3, vertices)
 }
 
@@ -80,19 +84,21 @@ pub fn put_sheet(
     charset: u32,
     name: &[u8],
     known: Point,
+    grid: Grid,
     vertices: &[i32],
     second: Point,
 )
     requires { ⌜ Storable charset (now name) known (now vertices) second (length (now b)) ⌝ }
     ensures { λ _.
         ⌜ now (b .exit)
-        ≡ sets (now (b .entry)) 0 (sheetBytes zone charset (now (name .entry)) known (now (vertices .entry)) second) ⌝ }
+        ≡ sets (now (b .entry)) 0 (sheetBytes zone charset (now (name .entry)) known grid (now (vertices .entry))
+        second) ⌝ }
 {
     put_zone(b, zone);
     put_charset(b, charset);
     put_name(b, name);
     let at = 14 + name.len();
     put_place(b, at, 4, known);
-    put_vertices(b, at + 15, vertices);
+    put_vertices(b, at + 15, grid, vertices);
     put_second(b, at + 18 + vertices.len() * 4, second)
 }

@@ -1,6 +1,6 @@
 // Writing a sheet, from any input into any buffer.
-// Here, in order: input_check (23, 22, 10 to 16, 19), second_size, needed_for, write (25 too). A second point of all
-// zero is none. Assumes nothing.
+// Here, in order: input_check (23, 22, 10, 28, 11 to 16, 19), second_size, needed_for, write (25 too). A second point
+// of all zero is none, and has no grid. Assumes nothing.
 ghost use mathlib.Core.Path.{_≡_};
 ghost use Prim.Native.Nat.{_≤_};
 ghost use lib.ListN.{length};
@@ -10,20 +10,36 @@ use crate::store;
 use judging::pair;
 use polygon::answer::Answer;
 use polygon::answer::Check;
+use polygon::grids::grid_check;
+use polygon::grids::grid_of_second;
+use polygon::grids::is_mixed;
 use sphere::point::Grid;
+use sphere::point::GridPoint;
 use sphere::point::Point;
 use sphere::point::is_null;
 
-fn input_check(charset: u32, name: &[u8], known: Point, vertices: &[i32], second: Point) -> Check
-    ensures { λ r. ⌜ r ≡ inputCheck charset (now (name .entry)) known (now (vertices .entry)) second ⌝ }
+fn input_check(
+    charset: u32,
+    name: &[u8],
+    known: GridPoint,
+    grid: Grid,
+    vertices: &[i32],
+    second: GridPoint,
+) -> Check
+    ensures { λ r. ⌜ r ≡ inputCheck charset (now (name .entry)) known grid (now (vertices .entry)) second ⌝ }
 {
+    let g = known.grid;
     if !fields::is_charset(charset) {
         return Check::Failed(23, 0);
     }
     if !fields::is_allowed(name.len(), 1, 120, 1) {
         return Check::Failed(22, 0);
     }
-    pair::optional_check(Grid::Coarse, vertices, known, second)
+    match grid_check(vertices, is_mixed(grid, g, grid_of_second(grid, second))) {
+        Check::Passed => {}
+        Check::Failed(number, place) => return Check::Failed(number, place),
+    }
+    pair::optional_check(grid, vertices, known.point, second.point)
 }
 
 // The bytes of the second point's field.
@@ -49,25 +65,44 @@ pub fn write(
     zone: u32,
     charset: u32,
     name: &[u8],
-    known: Point,
+    known: GridPoint,
+    grid: Grid,
     vertices: &[i32],
-    second: Point,
+    second: GridPoint,
     buffer: &mut [u8],
 ) -> Answer
     ensures { λ r.
         ⌜ r
-        ≡ writeOf charset (now (name .entry)) known (now (vertices .entry)) second (length (now (buffer .entry))) ⌝ }
+        ≡ writeOf charset (now (name .entry)) known grid (now (vertices .entry)) second
+        (length (now (buffer .entry))) ⌝ }
     ensures { λ _.
         ⌜ now (buffer .exit)
-        ≡ writtenTo zone charset (now (name .entry)) known (now (vertices .entry)) second (now (buffer .entry)) ⌝ }
+        ≡ writtenTo zone charset (now (name .entry)) known grid (now (vertices .entry)) second
+        (now (buffer .entry)) ⌝ }
 {
-    if let Check::Failed(number, place) = input_check(charset, name, known, vertices, second) {
+    if let Check::Failed(number, place) = input_check(
+        charset,
+        name,
+        known,
+        grid,
+        vertices,
+        second,
+    ) {
         return Answer::Refused(number, place);
     }
-    let needed = needed_for(name, vertices, second);
+    let needed = needed_for(name, vertices, second.point);
     if buffer.len() < needed {
         return Answer::Refused(25, needed);
     }
-    store::put_sheet(buffer, zone, charset, name, known, vertices, second);
+    store::put_sheet(
+        buffer,
+        zone,
+        charset,
+        name,
+        known.point,
+        grid,
+        vertices,
+        second.point,
+    );
     Answer::Done(needed)
 }

@@ -1,5 +1,5 @@
-//! The zone sheet by its bytes: 20 to 24. Document 01's five fields, and document 02's tag 6, which
-//! may be missing.
+//! The zone sheet by its bytes: 20 to 24. Document 01's five fields, with document 02's tag 7 in place of
+//! tag 5 on the fine grid, and document 02's tag 6, which may be missing.
 
 use super::answer;
 use super::geometry::Vector;
@@ -7,6 +7,8 @@ use crate::Answer;
 
 /// What a sheet says, not looked at any further.
 pub struct Zone {
+    /// The grid's.
+    pub limit: i128,
     pub known: Vector,
     pub vertices: Vec<Vector>,
     pub second: Option<Vector>,
@@ -30,7 +32,7 @@ pub fn points(body: &[u8]) -> Vec<Vector> {
 
 /// The zone, or the refusal.
 pub fn fields(sheet: &[u8]) -> Result<Zone, Answer> {
-    let mut bodies = vec![];
+    let mut fields = vec![];
     let mut at = 0;
     for tag in 1..=6 {
         let refused = |number| Err(answer(number, at, 0));
@@ -40,7 +42,7 @@ pub fn fields(sheet: &[u8]) -> Result<Zone, Answer> {
         if sheet.len() < at + 3 {
             return refused(20);
         }
-        if sheet[at] != tag {
+        if sheet[at] != tag && (tag, sheet[at]) != (5, 7) {
             return refused(21);
         }
         let length = 256 * usize::from(sheet[at + 1]) + usize::from(sheet[at + 2]);
@@ -50,19 +52,20 @@ pub fn fields(sheet: &[u8]) -> Result<Zone, Answer> {
         if sheet.len() < at + 3 + length {
             return refused(20);
         }
-        let body = &sheet[at + 3..at + 3 + length];
-        if tag == 2 && !(1..=3).contains(&body[0]) {
+        let field = &sheet[at..at + 3 + length];
+        if tag == 2 && !(1..=3).contains(&field[3]) {
             return refused(23);
         }
-        bodies.push(body);
+        fields.push(field);
         at += 3 + length;
     }
     if at < sheet.len() {
         return Err(answer(24, at, 0));
     }
     Ok(Zone {
-        known: points(bodies[3])[0],
-        vertices: points(bodies[4]),
-        second: bodies.get(5).map(|body| points(body)[0]),
+        limit: if fields[4][0] == 7 { 1 << 26 } else { 1 << 20 },
+        known: points(&fields[3][3..])[0],
+        vertices: points(&fields[4][3..]),
+        second: fields.get(5).map(|field| points(&field[3..])[0]),
     })
 }

@@ -6,14 +6,13 @@ use crate::Point;
 
 pub type Vector = [i128; 3];
 
-const LIMIT: i128 = 1_048_576;
-
 pub fn vector(p: Point) -> Vector {
     p.map(i128::from)
 }
 
-pub fn beyond(p: Vector) -> bool {
-    p.iter().any(|&k| k < -LIMIT || LIMIT < k)
+/// Beyond the grid with this limit.
+pub fn beyond(limit: i128, p: Vector) -> bool {
+    p.iter().any(|&k| k < -limit || limit < k)
 }
 
 pub fn all_zero(p: Vector) -> bool {
@@ -27,7 +26,7 @@ pub fn turn(a: Vector, b: Vector, c: Vector) -> i128 {
         - a[2] * b[1] * c[0]
 }
 
-fn cross(a: Vector, b: Vector) -> Vector {
+pub fn cross(a: Vector, b: Vector) -> Vector {
     [a[1] * b[2] - a[2] * b[1], a[2] * b[0] - a[0] * b[2], a[0] * b[1] - a[1] * b[0]]
 }
 

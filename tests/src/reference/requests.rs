@@ -68,9 +68,9 @@ fn looked(answer: Answer, sides: &[(Vector, Vector)], known: Vector, query: Vect
 /// The outline accepts it as a known point, it differs in direction from the first, and the first
 /// calls it inside.
 pub fn passes(zone: &Zone, candidate: Vector) -> bool {
-    outline_refusal(&zone.vertices, candidate).is_none()
+    outline_refusal(zone, candidate).is_none()
         && !same_direction(zone.known, candidate)
-        && verdict(&zone.vertices, zone.known, candidate).number == 1
+        && verdict(zone, zone.known, candidate).number == 1
 }
 
 /// The point that judges: queries opposite the first point are judged from the second.
@@ -82,7 +82,7 @@ fn judging(zone: &Zone, query: Vector) -> Vector {
 }
 
 pub fn judged(zone: &Zone, query: Vector) -> Answer {
-    verdict(&zone.vertices, judging(zone, query), query)
+    verdict(zone, judging(zone, query), query)
 }
 
 /// The earliest candidate that passes; the sheet's own second point is not looked at.

@@ -1,18 +1,21 @@
--- How a feed ends. Proved, in order: size-passed, feed-passed (what its checks establish); Ends, feed-refused,
--- feed-done (its answer and its result buffer on each way). Assumes nothing.
+-- How a feed ends. Defined: FeedPassed, Ends. Proved, in order: size-passed, feed-passed (what its checks establish);
+-- feed-refused, feed-done (its answer and its result buffer on each way). Assumes nothing.
 use mathlib.Core.Path.{_≡_}
 use mathlib.Core.Bool.{not}
-use mathlib.Core.List.{List}
+use mathlib.Core.List.{List, [], _∷_}
 use Prim.Native.Nat.{ℕ, _%_, _≤_}
 use borrow.Author.Tests.{ltb-false}
 use lib.Dec.{eqb, ltb}
 use lib.IntN.{ℤ}
 use lib.ListN.{length}
-use Rattle.sphere.specs.declared.point.Point.{Point}
+use Rattle.sphere.specs.declared.point.Grid.{Grid}
+use Rattle.sphere.specs.declared.point.GridPoint.{GridPoint}
+use Rattle.sphere.specs.Point.{limitOf}
 use Rattle.polygon.specs.declared.answer.Answer.{Answer}
 use Rattle.polygon.specs.declared.answer.Answer.the-variants.{Done, Refused}
 use Rattle.polygon.specs.declared.answer.Check.the-variants.{Passed, Failed}
-use Rattle.polygon.specs.Checks.{failsHere, failsIf, acceptCheck}
+use Rattle.polygon.specs.Checks.{_then_, failsHere, failsIf, acceptCheck}
+use Rattle.polygon.specs.Grids.{isMixed, gridCheck}
 use Rattle.polygon.proofs.Laws.Checks.{here-passed, then-passed}
 use Rattle.batch.specs.Buffer.{bufferAfter}
 use Rattle.batch.specs.Feed.{neededFor, sizeCheck, feedCheck, feedOf, noSecond, feedBytes, fedTo}
@@ -26,25 +29,32 @@ size-passed queries room e =
     let fits = then-passed whole (failsHere 27 n (ltb room n)) e .1 in
     ltb-false room n (here-passed 27 n (ltb room n) fits)
 
-module _ (limit : ℕ) (vs : List ℤ) (X : Point) (queries : List ℕ) where
-  pub feed-passed : (room : ℕ) → feedCheck limit vs X queries room ≡ Passed →
-      (acceptCheck limit vs X ≡ Passed) × (neededFor queries ≤ room)
+module _ (g : Grid) (vs : List ℤ) (X : GridPoint) (h : Grid) (queries : List ℕ) where
+  pub record FeedPassed (room : ℕ) : Type 0 where
+    pub accepted : acceptCheck (limitOf g) vs (X .point) ≡ Passed
+    pub unmixed : gridCheck vs (isMixed g (X .grid ∷ h ∷ [])) ≡ Passed
+    pub enough : neededFor queries ≤ room
+
+  pub feed-passed : (room : ℕ) → feedCheck g vs X h queries room ≡ Passed → FeedPassed room
   unfolding feedCheck
   feed-passed room e =
-      let two = then-passed (sizeCheck queries room) (acceptCheck limit vs X) e in
-      (two .1, size-passed queries room (two .0))
+      let mixed = gridCheck vs (isMixed g (X .grid ∷ h ∷ [])) in
+      let accept = acceptCheck (limitOf g) vs (X .point) in
+      let two = then-passed (sizeCheck queries room) (mixed then accept) e in
+      let more = then-passed mixed accept (two .1) in
+      record { accepted = more .1; unmixed = more .0; enough = size-passed queries room (two .0) }
 
   -- ---- the two ways that a feed ends
   module _ (buffer : List ℕ) where
     pub record Ends (answer : Answer) (left : List ℕ) : Type 0 where
-      pub answered : feedOf limit vs X queries (length buffer) ≡ answer
-      pub filled : fedTo limit vs X queries buffer ≡ left
+      pub answered : feedOf g vs X h queries (length buffer) ≡ answer
+      pub filled : fedTo g vs X h queries buffer ≡ left
 
-    pub feed-refused : {n p : ℕ} → feedCheck limit vs X queries (length buffer) ≡ Failed n p → Ends (Refused n p) buffer
+    pub feed-refused : {n p : ℕ} → feedCheck g vs X h queries (length buffer) ≡ Failed n p → Ends (Refused n p) buffer
     unfolding feedOf fedTo
     feed-refused e = record { answered = rw e; filled = rw e }
 
-    pub feed-done : feedCheck limit vs X queries (length buffer) ≡ Passed →
-        Ends (Done 0) (bufferAfter Passed (feedBytes limit vs X noSecond queries) buffer)
+    pub feed-done : feedCheck g vs X h queries (length buffer) ≡ Passed →
+        Ends (Done 0) (bufferAfter Passed (feedBytes (limitOf g) vs (X .point) noSecond queries) buffer)
     unfolding feedOf fedTo
     feed-done e = record { answered = rw e; filled = rw e }

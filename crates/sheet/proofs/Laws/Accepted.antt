@@ -1,6 +1,6 @@
--- What an accepted list and known point are known to be: the checks 10, 11 and 15, in numbers.
--- Proved, in order: whole-passed, accepted-list, accepted-known, accepted-number; fits-word, within-word (such numbers
--- fit 32 bits); null-none; optional-check, optional-small (a second point, or none). Assumes nothing.
+-- What an accepted list and known point are known to be: the checks 10, 11 and 15, in numbers. Proved, in order:
+-- whole-passed, list-check, accepted-list, accepted-known, accepted-number; fits-word, within-word (such numbers fit 32
+-- bits); null-none; optional-check, optional-small (a second point, or none). Assumes nothing.
 use mathlib.Core.Path.{_≡_, refl, sym}
 use mathlib.Core.Bool.{Bool, true, false, true≢false}
 use mathlib.Core.List.{List}
@@ -12,7 +12,9 @@ use lib.IntN.{ℤ, pos, negsuc}
 use lib.ListN.{length, getD, List·getD-eq-default}
 use Rattle.integers.specs.Sign.{signOf, isZero}
 use Rattle.sphere.specs.declared.point.Point.{Point}
-use Rattle.sphere.specs.Point.{coarse, Fits, Within, isNull}
+use Rattle.sphere.specs.declared.point.Grid.{Grid}
+use Rattle.sphere.specs.declared.point.Grid.the-variants.{Coarse, Fine}
+use Rattle.sphere.specs.Point.{limitOf, Fits, Within, isNull}
 use Rattle.polygon.specs.declared.answer.Check.the-variants.{Passed}
 use Rattle.polygon.specs.Vertices.{vertexCount, vertexAt}
 use Rattle.polygon.specs.Checks.{listCheck, polygonCheck, acceptCheck}
@@ -35,7 +37,7 @@ whole-passed vs l =
     rw (eq-eqb (length vs % 3) 0 (l .threes), le-leb 3 n (l .least), le-leb n 4096 (l .most))
 
 module _ (limit : ℕ) (vs : List ℤ) (X : Point) (ok : acceptCheck limit vs X ≡ Passed) where
-  list-check : listCheck vs ≡ Passed
+  pub list-check : listCheck vs ≡ Passed
   unfolding acceptCheck polygonCheck
   list-check = then-passed (listCheck vs) _ (then-passed (polygonCheck limit vs) _ ok .0) .0
 
@@ -73,11 +75,13 @@ module _ (limit : ℕ) (vs : List ℤ) (X : Point) (ok : acceptCheck limit vs X 
   accepted-number j = number-fits j (ltb j (length vs)) refl
 
 -- ---- numbers of the grid fit 32 bits
-pub fits-word : {k : ℤ} → Fits coarse k → Fits 2147483647 k
-fits-word f = let h = f .within in record { within = omega arith }
+pub fits-word : (g : Grid) {k : ℤ} → Fits (limitOf g) k → Fits 2147483647 k
+fits-word Coarse f = let h = f .within in record { within = omega arith }
+fits-word Fine f = let h = f .within in record { within = omega arith }
 
-pub within-word : {p : Point} → Within coarse p → Within 2147483647 p
-within-word w = record { at-x = fits-word (w .at-x); at-y = fits-word (w .at-y); at-z = fits-word (w .at-z) }
+pub within-word : (g : Grid) {p : Point} → Within (limitOf g) p → Within 2147483647 p
+within-word g w =
+    record { at-x = fits-word g (w .at-x); at-y = fits-word g (w .at-y); at-z = fits-word g (w .at-z) }
 
 -- ---- all zero is no point, and is not accepted
 zero-is : (k : ℤ) → isZero (signOf k) ≡ true → k ≡ pos 0
@@ -100,14 +104,14 @@ nought : Fits 2147483647 (pos 0)
 nought = record { within = zero-le }
 
 -- ---- a second point, or none
-module _ (vs : List ℤ) (X Y : Point) (ok : optionalCheck coarse vs X Y ≡ Passed) where
-  pub optional-check : isNull Y ≡ false → secondCheck coarse vs X Y ≡ Passed
+module _ (g : Grid) (vs : List ℤ) (X Y : Point) (ok : optionalCheck (limitOf g) vs X Y ≡ Passed) where
+  pub optional-check : isNull Y ≡ false → secondCheck (limitOf g) vs X Y ≡ Passed
   unfolding optionalCheck
-  optional-check some = rw some at (then-passed (acceptCheck coarse vs X) _ ok .1)
+  optional-check some = rw some at (then-passed (acceptCheck (limitOf g) vs X) _ ok .1)
 
   pub optional-small : Within 2147483647 Y
   optional-small = go (isNull Y) refl
     where
       go : (none : Bool) → isNull Y ≡ none → Within 2147483647 Y
       go true e = rw (null-none Y e) (record { at-x = nought; at-y = nought; at-z = nought })
-      go false e = within-word (accepted-known coarse vs Y (optional-second coarse vs X Y ok e .accepted))
+      go false e = within-word g (accepted-known (limitOf g) vs Y (optional-second (limitOf g) vs X Y ok e .accepted))

@@ -1,7 +1,7 @@
 -- Candidates in bytes (document 02, P4). Proved, in order: int-at, candidate-point (candidate i stands at byte 12i),
 -- candidates-whole, candidates-count; chosen-accepted (choosing, where the polygon is accepted), choose-short,
 -- choose-passed, choose-failed (how choosing by a sheet ends). Assumes nothing.
-use mathlib.Core.Path.{_≡_, refl, ap, _∙_}
+use mathlib.Core.Path.{_≡_, sym, ap, _∙_}
 use mathlib.Core.Bool.{true}
 use mathlib.Core.List.{List}
 use Prim.Native.Nat.{ℕ, zero, suc, _+_, _*_, _%_, _<_}
@@ -10,20 +10,18 @@ use borrow.Author.Tests.{eq-eqb, ne-eqb}
 use lib.IntN.{ℤ, pos}
 use lib.ListN.{length, getD}
 use Rattle.sphere.specs.declared.point.Point.{Point}
-use Rattle.sphere.specs.Point.{coarse}
+use Rattle.sphere.specs.Point.{limitOf}
 use Rattle.big_endian.specs.Bytes.{intAt, intsAt, pointAt}
 use Rattle.big_endian.proofs.Laws.Rows.{intsAt-length}
 use Rattle.polygon.specs.declared.answer.Found.{Found}
-use Rattle.polygon.specs.declared.answer.Answer.{Answer}
 use Rattle.polygon.specs.declared.answer.Answer.the-variants.{Refused}
-use Rattle.polygon.specs.declared.answer.Check.{Check}
 use Rattle.polygon.specs.declared.answer.Check.the-variants.{Passed, Failed}
-use Rattle.polygon.specs.Answer.{answerAfter}
 use Rattle.polygon.specs.Search.{firstFrom}
 use Rattle.polygon.specs.Vertices.{vertexCount, vertexAt}
-use Rattle.polygon.specs.Checks.{_then_, acceptCheck}
+use Rattle.polygon.specs.Checks.{acceptCheck}
 use Rattle.polygon.specs.Pair.{isSecond, isWhole, chosen, earliestOf, chooseOf}
-use Rattle.sheet.specs.Fields.{fieldsCheck}
+use Rattle.polygon.proofs.Laws.Checks.{after-then}
+use Rattle.sheet.specs.Fields.{gridOf, fieldsCheck}
 use Rattle.sheet.specs.Sheet.{knownOf, verticesOf, plainCheck}
 use Rattle.sheet.specs.Choose.{candidateCount, candidatesOf, wholeCheck, sheetChooseOf}
 use Rattle.sheet.proofs.Laws.Reads.{plain-passed}
@@ -62,19 +60,15 @@ candidates-whole candidates =
 candidates-count : (candidates : List ℕ) → vertexCount (candidatesOf candidates) ≡ candidateCount candidates
 candidates-count candidates = omega (arith, candidates-length candidates)
 
-pub chosen-accepted : (vs : List ℤ) (X : Point) (candidates : List ℕ) → acceptCheck coarse vs X ≡ Passed →
-    {found : Found} →
-    firstFrom (λ i. isSecond coarse vs X (vertexAt (candidatesOf candidates) i)) 0 (candidateCount candidates) ≡ found →
-    chooseOf coarse vs X (candidatesOf candidates) ≡ chosen found
+pub chosen-accepted :
+    (limit : ℕ) (vs : List ℤ) (X : Point) (candidates : List ℕ) → acceptCheck limit vs X ≡ Passed → {found : Found} →
+    firstFrom (λ i. isSecond limit vs X (vertexAt (candidatesOf candidates) i)) 0 (candidateCount candidates) ≡ found →
+    chooseOf limit vs X (candidatesOf candidates) ≡ chosen found
 unfolding chooseOf earliestOf
-chosen-accepted vs X candidates ok e =
+chosen-accepted limit vs X candidates ok e =
     rw (candidates-whole candidates, ok, candidates-count candidates) (ap chosen e)
 
 -- ---- how choosing by a sheet ends
-after-then : (c d : Check) (a : Answer) → answerAfter c (answerAfter d a) ≡ answerAfter (c then d) a
-after-then Passed d a = refl
-after-then (Failed number place) d a = refl
-
 module _ (b candidates : List ℕ) where
   pub choose-short : (length candidates % 12 ≡ 0 → ⊥) → sheetChooseOf b candidates ≡ Refused 10 0
   unfolding sheetChooseOf wholeCheck
@@ -86,12 +80,12 @@ module _ (b candidates : List ℕ) where
     whole-passed = rw (eq-eqb (length candidates % 12) 0 whole)
 
     pub choose-passed : plainCheck b ≡ Passed →
-        sheetChooseOf b candidates ≡ chooseOf coarse (verticesOf b) (knownOf b) (candidatesOf candidates)
+        sheetChooseOf b candidates ≡ chooseOf (limitOf (gridOf b)) (verticesOf b) (knownOf b) (candidatesOf candidates)
     unfolding sheetChooseOf
     choose-passed e = rw (whole-passed, plain-passed b e .0)
 
     pub choose-failed : {n p : ℕ} → plainCheck b ≡ Failed n p → sheetChooseOf b candidates ≡ Refused n p
     unfolding sheetChooseOf chooseOf plainCheck
     choose-failed e =
-        let accept = acceptCheck coarse (verticesOf b) (knownOf b) in
-        rw (whole-passed, candidates-whole candidates) (after-then (fieldsCheck b) accept _ ∙ rw e)
+        let accept = acceptCheck (limitOf (gridOf b)) (verticesOf b) (knownOf b) in
+        rw (whole-passed, candidates-whole candidates) (sym (after-then (fieldsCheck b) accept _) ∙ rw e)

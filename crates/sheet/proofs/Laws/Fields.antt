@@ -14,8 +14,9 @@ use Rattle.big_endian.specs.Bytes.{byteAt, shortAt}
 use Rattle.polygon.specs.declared.answer.Check.the-variants.{Passed, Failed}
 use Rattle.polygon.proofs.Laws.Checks.{here-passed, then-passed}
 use Rattle.sheet.specs.Fields.{isAllowed, fieldCheck, fieldEnd, charsetStart, nameStart, knownStart}
-use Rattle.sheet.specs.Fields.{verticesStart, secondStart, hasSecond, sheetEnd, zoneCheck, charsetCheck}
-use Rattle.sheet.specs.Fields.{nameCheck, knownCheck, verticesCheck, fiveFields, secondField, sheetFields}
+use Rattle.sheet.specs.Fields.{verticesStart, gridOf, tagOf, secondStart, hasSecond, sheetEnd, zoneCheck}
+use Rattle.sheet.specs.Fields.{charsetCheck, nameCheck, knownCheck, verticesCheck, fiveFields, secondField}
+use Rattle.sheet.specs.Fields.{sheetFields}
 use Rattle.sheet.proofs.Laws.Checks.{and-true}
 
 -- What is so of a field that passes.
@@ -137,7 +138,7 @@ pub passed-spans : (b : List ℕ) → fiveFields b ≡ Passed → Spans b
 unfolding fieldEnd
 passed-spans b e =
     let f = passed-fields b e in
-    let v = passed-sound 5 36 49152 12 b (verticesStart b) (f .vertices) in
+    let v = passed-sound (tagOf (gridOf b)) 36 49152 12 b (verticesStart b) (f .vertices) in
     record {
       name = passed-sound 3 1 120 1 b nameStart (f .name) .size;
       known-at = refl;

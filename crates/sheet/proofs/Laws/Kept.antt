@@ -11,7 +11,8 @@ use Rattle.big_endian.proofs.Laws.Rows.{intsAt-length}
 use Rattle.big_endian.proofs.Laws.Stores.{intsBytes-length}
 use Rattle.big_endian.proofs.Laws.Kept.{word-kept, ints-kept, point-kept}
 use Rattle.polygon.specs.declared.answer.Check.the-variants.{Passed}
-use Rattle.sheet.specs.Fields.{charsetStart, nameStart, knownStart, verticesStart, secondStart, fiveFields}
+use Rattle.sheet.specs.Fields.{charsetStart, nameStart, knownStart, verticesStart, gridOf, tagOf, secondStart}
+use Rattle.sheet.specs.Fields.{fiveFields}
 use Rattle.sheet.specs.Sheet.{zoneOf, charsetOf, nameAt, nameLength, nameOf, knownOf, vertexCountOf, verticesOf}
 use Rattle.sheet.specs.Sheet.{secondOf}
 use Rattle.sheet.specs.Write.{fieldBytes, secondBytes, sheetBytes}
@@ -32,15 +33,15 @@ module _ (b : List ℕ) (sound : fiveFields b ≡ Passed) where
 
   module _ (are : AreBytes b) where
     vertices-kept : drop (verticesStart b) b
-        ≡ fieldBytes 5 (intsBytes (verticesOf b)) ++ drop (secondStart b) b
+        ≡ fieldBytes (tagOf (gridOf b)) (intsBytes (verticesOf b)) ++ drop (secondStart b) b
     vertices-kept =
         let s = passed-spans b sound in
-        let f = passed-field 5 _ b (verticesStart b) (passed-fields b sound .vertices) in
+        let f = passed-field (tagOf (gridOf b)) _ b (verticesStart b) (passed-fields b sound .vertices) in
         let n = vertexCountOf b * 3 in
         let row = ints-kept b are n (verticesStart b + 3) (omega arith) in
         let e : verticesStart b + 3 + n * 4 ≡ secondStart b = omega arith in
         let size = sym verticesOf-length ∙ sym (intsBytes-length (verticesOf b)) in
-        field-kept b are (verticesStart b) 5 (intsBytes (verticesOf b)) _ (f .head) (f .tagged) size
+        field-kept b are (verticesStart b) (tagOf (gridOf b)) (intsBytes (verticesOf b)) _ (f .head) (f .tagged) size
         (row ∙ ap (λ (k : ℕ). intsBytes (verticesOf b) ++ drop k b) e)
 
     known-kept : drop (knownStart b) b ≡ fieldBytes 4 (pointBytes (knownOf b)) ++ drop (verticesStart b) b
@@ -83,7 +84,7 @@ module _ (b : List ℕ) (sound : fiveFields b ≡ Passed) where
 
     -- The sheet's parts, written, are its bytes.
     pub sheet-kept : drop (secondStart b) b ≡ secondBytes (secondOf b) →
-        sheetBytes (zoneOf b) (charsetOf b) (nameOf b) (knownOf b) (verticesOf b) (secondOf b) ≡ b
+        sheetBytes (zoneOf b) (charsetOf b) (nameOf b) (knownOf b) (gridOf b) (verticesOf b) (secondOf b) ≡ b
     unfolding sheetBytes
     sheet-kept last =
         sym (zone-kept
@@ -91,4 +92,4 @@ module _ (b : List ℕ) (sound : fiveFields b ≡ Passed) where
         ∙ ap (λ (l : List ℕ). fieldBytes 2 (charsetOf b ∷ []) ++ l) (name-kept
         ∙ ap (λ (l : List ℕ). fieldBytes 3 (nameOf b) ++ l) (known-kept
         ∙ ap (λ (l : List ℕ). fieldBytes 4 (pointBytes (knownOf b)) ++ l) (vertices-kept
-        ∙ ap (λ (l : List ℕ). fieldBytes 5 (intsBytes (verticesOf b)) ++ l) last)))))
+        ∙ ap (λ (l : List ℕ). fieldBytes (tagOf (gridOf b)) (intsBytes (verticesOf b)) ++ l) last)))))

@@ -3,7 +3,7 @@
 -- above-sheet (reading: above 10), above-write (writing: above 9). Assumes nothing.
 use mathlib.Core.Path.{_≡_, refl, sym}
 use mathlib.Core.Bool.{Bool, true, false, not, cond}
-use mathlib.Core.List.{List}
+use mathlib.Core.List.{List, [], _∷_}
 use Prim.Native.Nat.{ℕ, _+_, _*_, _<_}
 use native.Mathlib.Omega.{arith}
 use lib.Dec.{eqb, ltb, lit<}
@@ -11,7 +11,9 @@ use lib.IntN.{ℤ}
 use lib.ListN.{length}
 use Rattle.integers.specs.Sign.{signOf, isZero}
 use Rattle.sphere.specs.declared.point.Point.{Point}
-use Rattle.sphere.specs.Point.{coarse, isBeyond, isNull, isOffGrid}
+use Rattle.sphere.specs.declared.point.Grid.{Grid}
+use Rattle.sphere.specs.declared.point.GridPoint.{GridPoint}
+use Rattle.sphere.specs.Point.{limitOf, isBeyond, isNull, isOffGrid}
 use Rattle.sphere.specs.Orientation.{orientationOf}
 use Rattle.sphere.specs.Direction.{isSameDirection, isAntipodal}
 use Rattle.big_endian.specs.Bytes.{byteAt, shortAt}
@@ -25,10 +27,11 @@ use Rattle.polygon.specs.Vertices.{vertexCount, vertexAt, startOf, endOf}
 use Rattle.polygon.specs.Checks.{_then_, failsHere, failsAt, isVertexList, listCheck, beyondCheck, nullCheck}
 use Rattle.polygon.specs.Checks.{sameCheck, antipodalCheck, referenceCheck, circleCheck, polygonCheck, acceptCheck}
 use Rattle.polygon.specs.Pair.{isSecond, secondCheck, optionalCheck}
+use Rattle.polygon.specs.Grids.{isMixed, gridCheck, gridOfSecond}
 use Rattle.polygon.proofs.Laws.Checks.{failed-not-passed}
 use Rattle.sheet.specs.Fields.{isAllowed, isCharset, fieldEnd, fieldCheck, knownStart, verticesStart}
-use Rattle.sheet.specs.Fields.{secondStart, hasSecond, sheetEnd, charsetCheck, fiveFields, secondField}
-use Rattle.sheet.specs.Fields.{sheetFields, restCheck, fieldsCheck}
+use Rattle.sheet.specs.Fields.{gridOf, tagOf, secondStart, hasSecond, sheetEnd, charsetCheck, fiveFields}
+use Rattle.sheet.specs.Fields.{secondField, sheetFields, restCheck, fieldsCheck}
 use Rattle.sheet.specs.Sheet.{knownOf, vertexCountOf, verticesOf, secondOf, plainCheck, carriedCheck, sheetCheck}
 use Rattle.sheet.specs.Write.{neededFor, inputCheck, writeCheck}
 use Rattle.sheet.proofs.Laws.Fields.{passed-spans}
@@ -93,7 +96,7 @@ above-fields b =
     both above-charset b
     both above-field 3 (isAllowed 1 120 1) b 11
     both above-field 4 (isAllowed 12 12 1) b (knownStart b)
-    both above-field 5 (isAllowed 36 49152 12) b (verticesStart b))
+    both above-field (tagOf (gridOf b)) (isAllowed 36 49152 12) b (verticesStart b))
     both above-sixth b)
     both above-here 24 (sheetEnd b) (ltb (sheetEnd b) (length b)) (lit< tt)
 
@@ -154,17 +157,21 @@ list-above b e =
 pub above-sheet : (b : List ℕ) → Above 10 (sheetCheck b)
 unfolding sheetCheck plainCheck carriedCheck
 above-sheet b =
-    above-then (fieldsCheck b) (acceptCheck coarse (verticesOf b) (knownOf b)) (above-fields b)
-    (λ e. above-accept 10 coarse (verticesOf b) (knownOf b) (lit< tt) (list-above b e))
-    both above-if (hasSecond b) (above-second 10 coarse (verticesOf b) (knownOf b) (secondOf b) (lit< tt))
+    above-then (fieldsCheck b) (acceptCheck (limitOf (gridOf b)) (verticesOf b) (knownOf b)) (above-fields b)
+    (λ e. above-accept 10 (limitOf (gridOf b)) (verticesOf b) (knownOf b) (lit< tt) (list-above b e))
+    both above-if (hasSecond b) (above-second 10 (limitOf (gridOf b)) (verticesOf b) (knownOf b) (secondOf b) (lit< tt))
 
 pub above-write :
-    (charset : ℕ) (name : List ℕ) (known : Point) (vertices : List ℤ) (second : Point) (room : ℕ) →
-    Above 9 (writeCheck charset name known vertices second room)
-unfolding writeCheck inputCheck optionalCheck listCheck
-above-write charset name known vertices second room =
+    (charset : ℕ) (name : List ℕ) (known : GridPoint) (g : Grid) (vertices : List ℤ) (second : GridPoint) (room : ℕ) →
+    Above 9 (writeCheck charset name known g vertices second room)
+unfolding writeCheck inputCheck gridCheck optionalCheck listCheck
+above-write charset name known g vertices second room =
+    let n = neededFor name vertices (second .point) in
+    let list = above-here 10 0 (not (isVertexList vertices)) (lit< tt) in
     (above-here 23 0 (not (isCharset charset)) (lit< tt)
     both above-here 22 0 (not (isAllowed 1 120 1 (length name))) (lit< tt)
-    both above-accept 9 coarse vertices known (lit< tt) (above-here 10 0 (not (isVertexList vertices)) (lit< tt))
-    both above-unless (isNull second) (above-second 9 coarse vertices known second (lit< tt)))
-    both above-here 25 (neededFor name vertices second) (ltb room (neededFor name vertices second)) (lit< tt)
+    both (list both above-here 28 0 (isMixed g (known .grid ∷ gridOfSecond g second ∷ [])) (lit< tt))
+    both above-accept 9 (limitOf g) vertices (known .point) (lit< tt) list
+    both above-unless (isNull (second .point))
+    (above-second 9 (limitOf g) vertices (known .point) (second .point) (lit< tt)))
+    both above-here 25 n (ltb room n) (lit< tt)

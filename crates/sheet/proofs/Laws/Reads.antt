@@ -10,7 +10,7 @@ use native.Mathlib.Omega.{arith}
 use lib.IntN.{ℤ}
 use lib.ListN.{length, take, length-append}
 use lib.Seq.{take-at}
-use Rattle.sphere.specs.Point.{coarse, isNull}
+use Rattle.sphere.specs.Point.{limitOf, isNull}
 use Rattle.big_endian.specs.Bytes.{pointAt}
 use Rattle.big_endian.proofs.Laws.Rows.{intsAt-length}
 use Rattle.polygon.specs.declared.answer.Check.{Check}
@@ -20,7 +20,7 @@ use Rattle.polygon.specs.Pair.{secondCheck, optionalCheck}
 use Rattle.polygon.proofs.Laws.Checks.{then-passed}
 use Rattle.batch.specs.Feed.{noSecond}
 use Rattle.batch.proofs.Laws.From.{none-null}
-use Rattle.sheet.specs.Fields.{verticesStart, secondStart, hasSecond, fiveFields, sheetFields, restCheck}
+use Rattle.sheet.specs.Fields.{verticesStart, gridOf, secondStart, hasSecond, fiveFields, sheetFields, restCheck}
 use Rattle.sheet.specs.Fields.{fieldsCheck}
 use Rattle.sheet.specs.Sheet.{knownOf, vertexCountOf, verticesOf, secondOf, plainCheck, carriedCheck, sheetCheck}
 use Rattle.sheet.specs.Sheet.{refusedSheet, readAfter, readOf, loadedAfter, loadedOf, decodedOf}
@@ -37,9 +37,10 @@ module _ (b : List ℕ) where
 
   -- ---- without the second point: the fields are sound and the polygon is accepted
   pub plain-passed :
-      plainCheck b ≡ Passed → (fieldsCheck b ≡ Passed) × (acceptCheck coarse (verticesOf b) (knownOf b) ≡ Passed)
+      plainCheck b ≡ Passed →
+      (fieldsCheck b ≡ Passed) × (acceptCheck (limitOf (gridOf b)) (verticesOf b) (knownOf b) ≡ Passed)
   unfolding plainCheck
-  plain-passed e = then-passed (fieldsCheck b) (acceptCheck coarse (verticesOf b) (knownOf b)) e
+  plain-passed e = then-passed (fieldsCheck b) (acceptCheck (limitOf (gridOf b)) (verticesOf b) (knownOf b)) e
 
   pub plain-five : plainCheck b ≡ Passed → fiveFields b ≡ Passed
   plain-five e = fields-five (plain-passed e .0)
@@ -48,7 +49,8 @@ module _ (b : List ℕ) where
   unfolding plainCheck
   plain-unsound e = then-failed _ e
 
-  pub plain-polygon : fieldsCheck b ≡ Passed → plainCheck b ≡ acceptCheck coarse (verticesOf b) (knownOf b)
+  pub plain-polygon :
+      fieldsCheck b ≡ Passed → plainCheck b ≡ acceptCheck (limitOf (gridOf b)) (verticesOf b) (knownOf b)
   unfolding plainCheck
   plain-polygon e = then-next _ e
 
@@ -59,7 +61,7 @@ module _ (b : List ℕ) where
 
   pub carried-second : hasSecond b ≡ true →
       (secondOf b ≡ pointAt b (secondStart b + 3))
-      × (carriedCheck b ≡ secondCheck coarse (verticesOf b) (knownOf b) (secondOf b))
+      × (carriedCheck b ≡ secondCheck (limitOf (gridOf b)) (verticesOf b) (knownOf b) (secondOf b))
   unfolding secondOf carriedCheck
   carried-second e = (rw e, rw e)
 
@@ -86,11 +88,11 @@ module _ (b : List ℕ) where
     pub sheet-five : fiveFields b ≡ Passed
     sheet-five = fields-five sheet-fields
 
-    pub sheet-accepted : acceptCheck coarse (verticesOf b) (knownOf b) ≡ Passed
+    pub sheet-accepted : acceptCheck (limitOf (gridOf b)) (verticesOf b) (knownOf b) ≡ Passed
     sheet-accepted = plain-passed sheet-plain .1
 
     -- Its points are accepted, one or both.
-    pub sheet-optional : optionalCheck coarse (verticesOf b) (knownOf b) (secondOf b) ≡ Passed
+    pub sheet-optional : optionalCheck (limitOf (gridOf b)) (verticesOf b) (knownOf b) (secondOf b) ≡ Passed
     unfolding sheetCheck optionalCheck
     sheet-optional = go (hasSecond b) refl (then-passed (plainCheck b) (carriedCheck b) e .1)
       where
@@ -99,8 +101,9 @@ module _ (b : List ℕ) where
         either false p = p
 
         go : (t : Bool) → hasSecond b ≡ t → carriedCheck b ≡ Passed →
-            (acceptCheck coarse (verticesOf b) (knownOf b)
-            then cond (isNull (secondOf b)) Passed (secondCheck coarse (verticesOf b) (knownOf b) (secondOf b)))
+            (acceptCheck (limitOf (gridOf b)) (verticesOf b) (knownOf b)
+            then cond (isNull (secondOf b)) Passed
+            (secondCheck (limitOf (gridOf b)) (verticesOf b) (knownOf b) (secondOf b)))
             ≡ Passed
         go true has ok = rw sheet-accepted (either (isNull (secondOf b)) (sym (carried-second has .1) ∙ ok))
         go false has ok = rw (sheet-accepted, carried-none has .0, none-null)

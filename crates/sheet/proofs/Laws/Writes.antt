@@ -2,7 +2,7 @@
 -- Proved, in order: passed-writable, input-sizes, input-storable (what input that passes is known to be);
 -- write-refused, write-short, write-done (the three ways that writing ends). Assumes nothing.
 use mathlib.Core.Path.{_≡_, sym, ap, _∙_}
-use mathlib.Core.List.{List, _++_}
+use mathlib.Core.List.{List, [], _∷_, _++_}
 use Prim.Native.Nat.{ℕ, _+_, _≤_, _<_}
 use native.Mathlib.Omega.{arith}
 use borrow.Author.Tests.{lt-ltb, le-ltb, leb-true, not-false}
@@ -10,13 +10,15 @@ use lib.Dec.{leb}
 use lib.IntN.{ℤ}
 use lib.ListN.{length, drop}
 use lib.Seq.{sets, sets-eq}
-use Rattle.sphere.specs.declared.point.Point.{Point}
-use Rattle.sphere.specs.Point.{coarse}
+use Rattle.sphere.specs.declared.point.Grid.{Grid}
+use Rattle.sphere.specs.declared.point.GridPoint.{GridPoint}
+use Rattle.sphere.specs.Point.{limitOf}
 use Rattle.polygon.specs.declared.answer.Answer.{Answer}
 use Rattle.polygon.specs.declared.answer.Answer.the-variants.{Done, Refused}
 use Rattle.polygon.specs.declared.answer.Check.the-variants.{Passed, Failed}
 use Rattle.polygon.specs.Checks.{acceptCheck}
 use Rattle.polygon.specs.Pair.{optionalCheck}
+use Rattle.polygon.specs.Grids.{isMixed, gridCheck, gridOfSecond}
 use Rattle.polygon.proofs.Laws.Checks.{here-passed, then-passed}
 use Rattle.polygon.proofs.Laws.Pair.{optional-first}
 use Rattle.sheet.specs.Fields.{isCharset}
@@ -27,29 +29,32 @@ use Rattle.sheet.proofs.Laws.Accepted.{accepted-list, accepted-known, w
 use Rattle.sheet.proofs.Laws.Written.{Writable}
 use Rattle.sheet.proofs.Laws.Stores.{sheetBytes-length}
 
-module _ (charset : ℕ) (name : List ℕ) (known : Point) (vertices : List ℤ) (second : Point) where
+module _ (charset : ℕ) (name : List ℕ) (known : GridPoint) (g : Grid) (vertices : List ℤ) (second : GridPoint) where
   pub passed-writable :
-      (zone : ℕ) → zone < 4294967296 → inputCheck charset name known vertices second ≡ Passed →
-      Writable zone charset name known vertices second
+      (zone : ℕ) → zone < 4294967296 → inputCheck charset name known g vertices second ≡ Passed →
+      Writable zone charset name (known .point) g vertices (second .point)
   unfolding inputCheck
   passed-writable zone small e =
       let one = then-passed _ _ e in
       let two = then-passed _ _ (one .1) in
+      let mixed = gridCheck vertices (isMixed g (known .grid ∷ gridOfSecond g second ∷ [])) in
+      let three = then-passed mixed (optionalCheck (limitOf g) vertices (known .point) (second .point)) (two .1) in
       record {
         small = small;
         coded = not-false _ (here-passed 23 0 _ (one .0));
         named = not-false _ (here-passed 22 0 _ (two .0));
-        paired = two .1;
+        paired = three .1;
       }
 
-  known-accepted : optionalCheck coarse vertices known second ≡ Passed → acceptCheck coarse vertices known ≡ Passed
-  known-accepted e = optional-first coarse vertices known second e
+  known-accepted : optionalCheck (limitOf g) vertices (known .point) (second .point) ≡ Passed →
+      acceptCheck (limitOf g) vertices (known .point) ≡ Passed
+  known-accepted e = optional-first (limitOf g) vertices (known .point) (second .point) e
 
-  module _ (ok : inputCheck charset name known vertices second ≡ Passed) where
+  module _ (ok : inputCheck charset name known g vertices second ≡ Passed) where
     pub input-sizes : (length name ≤ 120) × (length vertices ≤ 12288)
     input-sizes =
         let w = passed-writable 0 (omega arith) ok in
-        let l = accepted-list coarse vertices known (known-accepted (w .paired)) in
+        let l = accepted-list (limitOf g) vertices (known .point) (known-accepted (w .paired)) in
         let n = allowed-bounds 1 120 1 (length name) (w .named) in
         (omega arith, omega arith)
 
@@ -60,16 +65,16 @@ module _ (charset : ℕ) (name : List ℕ) (known : Point) (vertices : List ℤ)
         let h = leb-true charset 3 (and-true (leb 1 charset) (leb charset 3) (w .coded) .1) in
         omega arith
 
-    pub input-storable : (room : ℕ) → neededFor name vertices second ≤ room →
-        Storable charset name known vertices second room
+    pub input-storable : (room : ℕ) → neededFor name vertices (second .point) ≤ room →
+        Storable charset name (known .point) vertices (second .point) room
     input-storable room h =
         let w = passed-writable 0 (omega arith) ok in
         record {
           charset-small = charset-small;
           name-short = input-sizes .0;
-          known-small = within-word (accepted-known coarse vertices known (known-accepted (w .paired)));
+          known-small = within-word g (accepted-known (limitOf g) vertices (known .point) (known-accepted (w .paired)));
           row-short = input-sizes .1;
-          second-small = optional-small vertices known second (w .paired);
+          second-small = optional-small g vertices (known .point) (second .point) (w .paired);
           enough = h;
         }
 
@@ -77,40 +82,42 @@ module _ (charset : ℕ) (name : List ℕ) (known : Point) (vertices : List ℤ)
   module _ (zone : ℕ) (buffer : List ℕ) where
     -- The answer and the buffer after writing.
     pub record Ends (answer : Answer) (left : List ℕ) : Type 0 where
-      pub answered : writeOf charset name known vertices second (length buffer) ≡ answer
-      pub filled : writtenTo zone charset name known vertices second buffer ≡ left
+      pub answered : writeOf charset name known g vertices second (length buffer) ≡ answer
+      pub filled : writtenTo zone charset name known g vertices second buffer ≡ left
 
     failed-ends :
-        {n p : ℕ} → writeCheck charset name known vertices second (length buffer) ≡ Failed n p →
+        {n p : ℕ} → writeCheck charset name known g vertices second (length buffer) ≡ Failed n p →
         Ends (Refused n p) buffer
     unfolding writeOf writtenTo
     failed-ends e = record { answered = rw e; filled = rw e }
 
     pub write-refused :
-        {n p : ℕ} → inputCheck charset name known vertices second ≡ Failed n p → Ends (Refused n p) buffer
+        {n p : ℕ} → inputCheck charset name known g vertices second ≡ Failed n p → Ends (Refused n p) buffer
     unfolding writeCheck
     write-refused e = failed-ends (then-failed _ e)
 
-    module _ (ok : inputCheck charset name known vertices second ≡ Passed) where
+    module _ (ok : inputCheck charset name known g vertices second ≡ Passed) where
       pub write-short :
-          length buffer < neededFor name vertices second → Ends (Refused 25 (neededFor name vertices second)) buffer
+          length buffer < neededFor name vertices (second .point) →
+          Ends (Refused 25 (neededFor name vertices (second .point))) buffer
       unfolding writeCheck
-      write-short h = failed-ends (then-next _ ok ∙ rw (lt-ltb (length buffer) (neededFor name vertices second) h))
+      write-short h =
+          failed-ends (then-next _ ok ∙ rw (lt-ltb (length buffer) (neededFor name vertices (second .point)) h))
 
       enough-passed :
-          neededFor name vertices second ≤ length buffer →
-          writeCheck charset name known vertices second (length buffer) ≡ Passed
+          neededFor name vertices (second .point) ≤ length buffer →
+          writeCheck charset name known g vertices second (length buffer) ≡ Passed
       unfolding writeCheck
-      enough-passed h = then-next _ ok ∙ rw (le-ltb (length buffer) (neededFor name vertices second) h)
+      enough-passed h = then-next _ ok ∙ rw (le-ltb (length buffer) (neededFor name vertices (second .point)) h)
 
       pub write-done :
-          neededFor name vertices second ≤ length buffer →
-          Ends (Done (neededFor name vertices second))
-          (sets buffer 0 (sheetBytes zone charset name known vertices second))
+          neededFor name vertices (second .point) ≤ length buffer →
+          Ends (Done (neededFor name vertices (second .point)))
+          (sets buffer 0 (sheetBytes zone charset name (known .point) g vertices (second .point)))
       unfolding writeOf writtenTo
       write-done h =
-          let sheet = sheetBytes zone charset name known vertices second in
-          let n = sheetBytes-length zone charset name known vertices second in
+          let sheet = sheetBytes zone charset name (known .point) g vertices (second .point) in
+          let n = sheetBytes-length zone charset name (known .point) g vertices (second .point) in
           let z : 0 + length sheet ≡ length sheet = omega arith in
           let stored = sets-eq sheet buffer 0 (omega arith) ∙ ap (λ (k : ℕ). sheet ++ drop k buffer) z in
           record { answered = rw (enough-passed h); filled = rw (enough-passed h) (sym stored) }

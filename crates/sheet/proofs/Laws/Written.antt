@@ -1,17 +1,20 @@
 -- The bytes of a sheet, read: each field is found where it was written. Proved, in order: zone-written,
--- charset-written, name-written, known-written, count-written, vertices-written, fields-written (its
+-- charset-written, name-written, known-written, grid-written, count-written, vertices-written, fields-written (its
 -- fields pass), second-back, reads-as (reading hands back its parts). Assumes nothing.
 use mathlib.Core.Path.{_≡_, refl, ap, _∙_}
-use mathlib.Core.Bool.{Bool, true, false}
+use mathlib.Core.Bool.{Bool, true, false, cond}
 use mathlib.Core.List.{List, [], _∷_, _++_}
 use Prim.Native.Nat.{ℕ, _+_, _*_, _≤_, _<_}
 use native.Mathlib.Omega.{arith}
 use borrow.Author.Tests.{le-ltb}
+use lib.Dec.{eqb}
 use lib.IntN.{ℤ}
 use lib.ListN.{length, drop}
 use lib.Seq.{take-at}
 use Rattle.sphere.specs.declared.point.Point.{Point}
-use Rattle.sphere.specs.Point.{coarse, Within, isNull}
+use Rattle.sphere.specs.declared.point.Grid.{Grid}
+use Rattle.sphere.specs.declared.point.Grid.the-variants.{Coarse, Fine}
+use Rattle.sphere.specs.Point.{limitOf, Within, isNull}
 use Rattle.big_endian.specs.Bytes.{shortAt, wordBytes, intsBytes, numbersOf, pointBytes}
 use Rattle.big_endian.proofs.Laws.Written.{first-written, word-written, ints-written, point-written}
 use Rattle.big_endian.proofs.Laws.Stores.{intsBytes-length}
@@ -21,8 +24,8 @@ use Rattle.polygon.specs.Checks.{acceptCheck}
 use Rattle.polygon.specs.Pair.{optionalCheck}
 use Rattle.polygon.proofs.Laws.Pair.{optional-first}
 use Rattle.sheet.specs.Fields.{isAllowed, isCharset, fieldEnd, charsetStart, nameStart, knownStart, verticesStart}
-use Rattle.sheet.specs.Fields.{secondStart, sheetEnd, zoneCheck, charsetCheck, knownCheck, verticesCheck}
-use Rattle.sheet.specs.Fields.{fiveFields, sheetFields, restCheck, fieldsCheck}
+use Rattle.sheet.specs.Fields.{gridAt, gridOf, tagOf, secondStart, sheetEnd, zoneCheck, charsetCheck, knownCheck}
+use Rattle.sheet.specs.Fields.{verticesCheck, fiveFields, sheetFields, restCheck, fieldsCheck}
 use Rattle.sheet.specs.Sheet.{zoneOf, charsetOf, nameLength, nameOf, knownOf, vertexCountOf, verticesOf, secondOf}
 use Rattle.sheet.specs.Sheet.{carriedCheck, sheetCheck}
 use Rattle.sheet.specs.Claims.{ReadsAs}
@@ -30,7 +33,7 @@ use Rattle.sheet.specs.Write.{fieldBytes, secondBytes, sheetBytes}
 use Rattle.sheet.proofs.Laws.Checks.{then-next}
 use Rattle.sheet.proofs.Laws.Fields.{allowed-bounds, bounds-allowed}
 use Rattle.sheet.proofs.Laws.Stores.{wordBytes-length, sheetBytes-length}
-use Rattle.sheet.proofs.Laws.Bodies.{length-written, body-written, rest-written, field-written}
+use Rattle.sheet.proofs.Laws.Bodies.{tag-written, length-written, body-written, rest-written, field-written}
 use Rattle.sheet.proofs.Laws.Reads.{plain-polygon, carried-none, carried-second, sheet-carried, read-accepted}
 use Rattle.sheet.proofs.Laws.Accepted.{accepted-list, accepted-known, accepted-number, fits-word, within-word}
 use Rattle.sheet.proofs.Laws.Accepted.{optional-check, optional-small}
@@ -38,41 +41,41 @@ use Rattle.sheet.proofs.Laws.Second.{none-written, some-written, second
 use Rattle.sheet.proofs.Laws.Second.{end-second}
 
 -- Its parts are those that the writer's checks let through.
-pub record Writable (zone charset : ℕ) (name : List ℕ) (known : Point) (vertices : List ℤ) (second : Point)
-    : Type 0 where
+pub record Writable (zone charset : ℕ) (name : List ℕ) (known : Point) (g : Grid) (vertices : List ℤ)
+    (second : Point) : Type 0 where
   pub small : zone < 4294967296
   pub coded : isCharset charset ≡ true
   pub named : isAllowed 1 120 1 (length name) ≡ true
-  pub paired : optionalCheck coarse vertices known second ≡ Passed
+  pub paired : optionalCheck (limitOf g) vertices known second ≡ Passed
 
 module _
-    (zone charset : ℕ) (name : List ℕ) (known : Point) (vertices : List ℤ) (second : Point)
-    (w : Writable zone charset name known vertices second)
-    (b : List ℕ) (is : b ≡ sheetBytes zone charset name known vertices second) where
+    (zone charset : ℕ) (name : List ℕ) (known : Point) (g : Grid) (vertices : List ℤ) (second : Point)
+    (w : Writable zone charset name known g vertices second)
+    (b : List ℕ) (is : b ≡ sheetBytes zone charset name known g vertices second) where
   -- its points
-  accepted : acceptCheck coarse vertices known ≡ Passed
-  accepted = optional-first coarse vertices known second (w .paired)
+  accepted : acceptCheck (limitOf g) vertices known ≡ Passed
+  accepted = optional-first (limitOf g) vertices known second (w .paired)
 
   second-within : Within 2147483647 second
-  second-within = optional-small vertices known second (w .paired)
+  second-within = optional-small g vertices known second (w .paired)
 
   -- where the fields stand
   zone-at :
       drop 0 b ≡ fieldBytes 1 (wordBytes zone) ++ (fieldBytes 2 (charset ∷ [])
       ++ (fieldBytes 3 name ++ (fieldBytes 4 (pointBytes known)
-      ++ (fieldBytes 5 (intsBytes vertices) ++ secondBytes second))))
+      ++ (fieldBytes (tagOf g) (intsBytes vertices) ++ secondBytes second))))
   unfolding sheetBytes
   zone-at = is
 
   charset-at :
       drop charsetStart b ≡ fieldBytes 2 (charset ∷ [])
       ++ (fieldBytes 3 name ++ (fieldBytes 4 (pointBytes known)
-      ++ (fieldBytes 5 (intsBytes vertices) ++ secondBytes second)))
+      ++ (fieldBytes (tagOf g) (intsBytes vertices) ++ secondBytes second)))
   charset-at = rest-written b 0 1 (wordBytes zone) _ zone-at charsetStart (omega (arith, wordBytes-length zone))
 
   name-at :
       drop nameStart b ≡ fieldBytes 3 name ++ (fieldBytes 4 (pointBytes known)
-      ++ (fieldBytes 5 (intsBytes vertices) ++ secondBytes second))
+      ++ (fieldBytes (tagOf g) (intsBytes vertices) ++ secondBytes second))
   name-at = rest-written b charsetStart 2 (charset ∷ []) _ charset-at nameStart (omega arith)
 
   name-size : length name < 65536
@@ -86,31 +89,32 @@ module _
   known-start = omega (arith, name-length-written)
 
   known-at : drop (knownStart b) b
-      ≡ fieldBytes 4 (pointBytes known) ++ (fieldBytes 5 (intsBytes vertices) ++ secondBytes second)
+      ≡ fieldBytes 4 (pointBytes known) ++ (fieldBytes (tagOf g) (intsBytes vertices) ++ secondBytes second)
   known-at = rest-written b nameStart 3 name _ name-at (knownStart b) known-start
 
   known-size : length (pointBytes known) ≡ 12
   known-size = intsBytes-length (numbersOf known)
 
-  vertices-at : drop (verticesStart b) b ≡ fieldBytes 5 (intsBytes vertices) ++ secondBytes second
+  vertices-at : drop (verticesStart b) b ≡ fieldBytes (tagOf g) (intsBytes vertices) ++ secondBytes second
   vertices-at =
       rest-written b (knownStart b) 4 (pointBytes known) _ known-at (verticesStart b) (omega (arith, known-size))
 
   row-size : length (intsBytes vertices) < 65536
   row-size =
-      let l = accepted-list coarse vertices known accepted in
+      let l = accepted-list (limitOf g) vertices known accepted in
       omega (arith, intsBytes-length vertices)
 
   row-length : shortAt b (verticesStart b + 1) ≡ length vertices * 4
   row-length =
-      length-written b (verticesStart b) 5 (intsBytes vertices) _ vertices-at row-size ∙ intsBytes-length vertices
+      length-written b (verticesStart b) (tagOf g) (intsBytes vertices) _ vertices-at row-size
+      ∙ intsBytes-length vertices
 
   second-start : secondStart b ≡ verticesStart b + 3 + length (intsBytes vertices)
   unfolding fieldEnd
   second-start = omega (arith, row-length, intsBytes-length vertices)
 
   second-at : drop (secondStart b) b ≡ secondBytes second
-  second-at = rest-written b (verticesStart b) 5 (intsBytes vertices) _ vertices-at (secondStart b) second-start
+  second-at = rest-written b (verticesStart b) (tagOf g) (intsBytes vertices) _ vertices-at (secondStart b) second-start
 
   -- what is read there
   pub zone-written : zoneOf b ≡ zone
@@ -125,20 +129,30 @@ module _
 
   pub known-written : knownOf b ≡ known
   known-written =
-      point-written b (knownStart b + 3) known _ (within-word (accepted-known coarse vertices known accepted))
+      point-written b (knownStart b + 3) known _ (within-word g (accepted-known (limitOf g) vertices known accepted))
       (body-written b (knownStart b) 4 (pointBytes known) _ known-at)
 
+  pub grid-written : gridOf b ≡ g
+  unfolding gridAt
+  grid-written =
+      ap (λ (k : ℕ). cond (eqb k 7) Fine Coarse)
+      (tag-written b (verticesStart b) (tagOf g) (intsBytes vertices) _ vertices-at) ∙ tagged g
+    where
+      tagged : (h : Grid) → cond (eqb (tagOf h) 7) Fine Coarse ≡ h
+      tagged Coarse = refl
+      tagged Fine = refl
+
   pub count-written : vertexCountOf b ≡ vertexCount vertices
-  count-written = let l = accepted-list coarse vertices known accepted in omega (arith, row-length)
+  count-written = let l = accepted-list (limitOf g) vertices known accepted in omega (arith, row-length)
 
   pub vertices-written : verticesOf b ≡ vertices
   vertices-written =
-      let l = accepted-list coarse vertices known accepted in
+      let l = accepted-list (limitOf g) vertices known accepted in
       let n : vertexCountOf b * 3 ≡ length vertices = omega (arith, row-length) in
       rw n
       (ints-written b (verticesStart b + 3) vertices _
-      (λ i. fits-word (accepted-number coarse vertices known accepted i))
-      (body-written b (verticesStart b) 5 (intsBytes vertices) _ vertices-at))
+      (λ i. fits-word g (accepted-number (limitOf g) vertices known accepted i))
+      (body-written b (verticesStart b) (tagOf g) (intsBytes vertices) _ vertices-at))
 
   -- its fields pass, and nothing follows them
   charset-passed : charsetCheck b ≡ Passed
@@ -161,10 +175,11 @@ module _
 
   vertices-passed : verticesCheck b ≡ Passed
   vertices-passed =
-      let l = accepted-list coarse vertices known accepted in
+      let l = accepted-list (limitOf g) vertices known accepted in
       let n = intsBytes-length vertices in
-      field-written b (verticesStart b) 5 (intsBytes vertices) _ vertices-at (isAllowed 36 49152 12) row-size
-      (bounds-allowed 36 49152 12 _ (record { low = omega arith; high = omega arith; whole = omega arith }))
+      rw grid-written
+      (field-written b (verticesStart b) (tagOf g) (intsBytes vertices) _ vertices-at (isAllowed 36 49152 12) row-size
+      (bounds-allowed 36 49152 12 _ (record { low = omega arith; high = omega arith; whole = omega arith })))
 
   five-written : fiveFields b ≡ Passed
   unfolding fiveFields
@@ -174,7 +189,7 @@ module _
 
   sheet-ends : length b ≤ sheetEnd b
   sheet-ends =
-      let n = ap length is ∙ sheetBytes-length zone charset name known vertices second in
+      let n = ap length is ∙ sheetBytes-length zone charset name known g vertices second in
       let e = end-second second b second-at in
       omega (arith, second-start, known-start, intsBytes-length vertices)
 
@@ -194,20 +209,29 @@ module _
       go true e = carried-none b (none-written second b second-at e) .1
       go false e =
           carried-second b (some-written second b second-at e) .1
-          ∙ rw (vertices-written, known-written, second-back) (optional-check vertices known second (w .paired) e)
+          ∙ rw (grid-written, vertices-written, known-written, second-back)
+          (optional-check g vertices known second (w .paired) e)
 
   written-check : sheetCheck b ≡ Passed
   written-check =
-      sheet-carried b (plain-polygon b fields-written ∙ rw (vertices-written, known-written) accepted)
+      sheet-carried b (plain-polygon b fields-written ∙ rw (grid-written, vertices-written, known-written) accepted)
       ∙ carried-written
 
-  pub reads-as : ReadsAs zone charset name known vertices second b
+  pub reads-as : ReadsAs zone charset name known g vertices second b
   reads-as =
       let parts = read-accepted b written-check in
       record {
         handed-back =
             parts
-            ∙ rw (zone-written, charset-written, name-length-written, known-written, count-written, second-back);
+            ∙ rw (
+              zone-written,
+              charset-written,
+              name-length-written,
+              known-written,
+              count-written,
+              second-back,
+              grid-written,
+            );
         same-name = rw parts name-written;
         same-vertices = vertices-written;
       }

@@ -1,7 +1,10 @@
 -- `feed_check` meets its contract. Assumes nothing.
-use mathlib.Core.Path.{sym, _∙_}
+use mathlib.Core.Path.{_≡_, sym, ap, _∙_}
+use mathlib.Core.List.{[], _∷_}
 use borrow.Author.Needs.{needs}
-use Rattle.batch.specs.Feed.{feedCheck}
+use Rattle.polygon.specs.declared.answer.Check.the-variants.{Passed}
+use Rattle.polygon.specs.Grids.{isMixed, gridCheck}
+use Rattle.batch.specs.Feed.{sizeCheck, feedCheck}
 use Rattle.batch.proofs.feed.feed_check.Statement.{statement}
 use Rattle.batch.proofs.feed.feed_check.Tie as tie
 
@@ -18,14 +21,44 @@ returns : tie.Need-returns
 unfolding feedCheck
 returns c = rw (sym (c .before .before .before .size-check .ensures) ∙ c .before .number .given .1)
 
-accept-check-requires : tie.Need-accept-check-requires
-accept-check-requires c κs = search needs
+is-mixed-requires : tie.Need-is-mixed-requires
+is-mixed-requires c κs = search needs
+
+grid-check-requires : tie.Need-grid-check-requires
+grid-check-requires c κs = search needs
+
+enum-told-2 : tie.Need-enum-told-2
+enum-told-2 c = search needs
+
+enum-known-number-2 : tie.Need-enum-known-number-2
+enum-known-number-2 c = search needs
+
+-- What lines 26 and 27, and then 10 and 28, say.
+sized : (c : tie.After-enum-told) →
+    let a = c .before .before .before .before .args in sizeCheck (a .queries .now) (a .room) ≡ Passed
+sized c = sym (c .before .before .size-check .ensures) ∙ c .enum-told .given .1
+
+checked : (c : tie.After-grid-check) →
+    let a = c .before .before .before .before .before .before .args in
+    gridCheck (a .vertices .now) (isMixed (a .grid) (a .known .grid ∷ a .queries-grid ∷ [])) ≡ c .grid-check .result
+checked c =
+    let a = c .before .before .before .before .before .before .args in
+    sym (c .grid-check .ensures ∙ ap (gridCheck (a .vertices .now)) (c .before .is-mixed .ensures))
 
 returns-2 : tie.Need-returns-2
 unfolding feedCheck
 returns-2 c =
-    rw (sym (c .before .before .before .size-check .ensures) ∙ c .before .enum-told .given .1)
-    (c .accept-check .ensures)
+    let k = c .before .before .before in
+    rw (sized (k .before .before), checked k ∙ c .before .number2 .given .1)
+
+accept-check-requires : tie.Need-accept-check-requires
+accept-check-requires c κs = search needs
+
+returns-3 : tie.Need-returns-3
+unfolding feedCheck
+returns-3 c =
+    let k = c .before .before .before in
+    rw (sized (k .before .before), checked k ∙ c .before .enum-told2 .given .1) (c .accept-check .ensures)
 
 pub feed-check-spec : {M : Type 1} → statement M
 feed-check-spec =
@@ -35,5 +68,10 @@ feed-check-spec =
     enum-told
     enum-known-number
     returns
+    is-mixed-requires
+    grid-check-requires
+    enum-told-2
+    enum-known-number-2
+    returns-2
     accept-check-requires
-    returns-2)
+    returns-3)

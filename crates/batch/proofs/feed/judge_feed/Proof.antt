@@ -13,7 +13,8 @@ use Rattle.batch.proofs.feed.judge_feed.Tie as tie
 
 passed : (c : tie.After-enum-told) →
     let s = c .before .before .before .before .before .args in
-    feedCheck (limitOf (s .grid)) (s .vertices .now) (s .known) (s .queries .now) (length (s .results .now)) ≡ Passed
+    feedCheck (s .grid) (s .vertices .now) (s .known) (s .queries-grid) (s .queries .now) (length (s .results .now))
+    ≡ Passed
 passed c = sym (c .before .before .feed-check .ensures) ∙ c .enum-told .given .1
 
 feed-check-requires : tie.Need-feed-check-requires
@@ -29,14 +30,17 @@ returns : tie.Need-returns
 returns c =
     let e = sym (c .before .before .before .feed-check .ensures) ∙ c .before .number .given .1 in
     let s = c .before .before .before .before .before .before .args in
-    let w = feed-refused (limitOf (s .grid)) (s .vertices .now) (s .known) (s .queries .now) (s .results .now) e in
+    let w =
+    feed-refused (s .grid) (s .vertices .now) (s .known) (s .queries-grid) (s .queries .now) (s .results .now) e in
     (sym (w .answered), sym (w .filled))
 
 judge-all-requires : tie.Need-judge-all-requires
 judge-all-requires c κs =
     let s = c .before .before .before .before .before .before .args in
-    let two = feed-passed (limitOf (s .grid)) (s .vertices .now) (s .known) (s .queries .now) _ (passed (c .before)) in
-    (optional-none (limitOf (s .grid)) (s .vertices .now) (s .known) (two .0), two .1)
+    let w =
+    feed-passed (s .grid) (s .vertices .now) (s .known) (s .queries-grid) (s .queries .now) _ (passed (c .before))
+    in
+    (optional-none (limitOf (s .grid)) (s .vertices .now) (s .known .point) (w .accepted), w .enough)
 
 same-length : tie.Need-same-length
 same-length c = search needs
@@ -45,10 +49,11 @@ returns-2 : tie.Need-returns-2
 returns-2 c =
     let d = c .before .before .before .before in
     let s = d .before .before .before .before .before .args in
-    let limit = limitOf (s .grid) in
-    let w = feed-done limit (s .vertices .now) (s .known) (s .queries .now) (s .results .now) (passed d) in
-    let enough = feed-passed limit (s .vertices .now) (s .known) (s .queries .now) _ (passed d) .1 in
-    let stored = fed-stored limit (s .vertices .now) (s .known) noSecond (s .queries .now) (s .results .now) enough in
+    let Q = s .queries .now in
+    let w = feed-done (s .grid) (s .vertices .now) (s .known) (s .queries-grid) Q (s .results .now) (passed d) in
+    let enough = feed-passed (s .grid) (s .vertices .now) (s .known) (s .queries-grid) Q _ (passed d) .enough in
+    let stored =
+    fed-stored (limitOf (s .grid)) (s .vertices .now) (s .known .point) noSecond Q (s .results .now) enough in
     (sym (w .answered), c .before .before .judge-all .ensures ∙ stored ∙ sym (w .filled))
 
 pub judge-feed-spec : {M : Type 1} → statement M

@@ -27,8 +27,8 @@ module _ (s : tie.Start) where
   box-of : boxAt (s .args .boxes .now) (s .args .r) ≡ boxOf (s .args .vertices .now) (s .args .r)
   box-of = s .pre .0 .2 .each (s .args .r) (s .pre .1 .1)
 
-is-run-apart-requires : tie.Need-is-run-apart-requires
-is-run-apart-requires c κs =
+is-apart-requires : tie.Need-is-apart-requires
+is-apart-requires c κs =
     let w = box-within (c .pre .0 .1) (c .args .r) (c .pre .1 .1) in (
       (c .pre .1 .0 .4, omega (arith, few c, c .pre .0 .2 .room)),
       (rw (box-of c) (w .0), rw (box-of c) (w .1)),
@@ -40,7 +40,7 @@ returns c =
     let s = a .before in
     let v = s .args in
     let vs = v .vertices .now in
-    let e = sym (a .is-run-apart .ensures) ∙ c .if1 .taken in
+    let e = sym (a .is-apart .ensures) ∙ c .if1 .taken in
     let apart : isApart (crossOf (v .known) (v .c)) (boxOf vs (v .r)) ≡ true =
     rw (box-of s, s .pre .1 .0 .3) at e in
     sym (count-none (isTwin vs (v .c) (v .d)) (v .r * 32) (runEnd (vertexCount vs) (v .r) - v .r * 32)
@@ -69,7 +69,7 @@ pub twins-in-spec : {M : Type 1} → statement M
 twins-in-spec =
     tie.close
     (tie.spec
-    is-run-apart-requires
+    is-apart-requires
     returns
     mul-twins
     run-end-requires

@@ -1,13 +1,13 @@
 -- `choose::choose` meets its contract: 10 first, then the sheet without its second point, and then the search. Assumes
 -- nothing.
-use mathlib.Core.Path.{_≡_, sym, ap₂, _∙_}
+use mathlib.Core.Path.{_≡_, sym, _∙_}
 use mathlib.Core.List.{List}
 use Prim.Native.Nat.{_*_, _≤_}
 use borrow.Author.Needs.{needs}
 use lib.IntN.{ℤ, pos}
 use lib.ListN.{length, take, replicate}
 use lib.Seq.{length-take-le}
-use Rattle.sphere.specs.Point.{coarse}
+use Rattle.sphere.specs.Point.{limitOf}
 use Rattle.polygon.specs.declared.answer.Check.the-variants.{Passed}
 use Rattle.polygon.specs.Checks.{acceptCheck}
 use Rattle.polygon.specs.Pair.{chooseOf}
@@ -63,20 +63,25 @@ vertex-count-requires c κs = plain-five _ (passed c)
 mul-size : tie.Need-mul-size
 mul-size c = search needs
 
+grid-requires : tie.Need-grid-requires
+grid-requires c κs = plain-five _ (passed (c .before))
+
 array-share-prefix-scratch : tie.Need-array-share-prefix-scratch
-array-share-prefix-scratch c = room c
+array-share-prefix-scratch c = room (c .before)
 
 slice-aggregate-first-second : tie.Need-slice-aggregate-first-second
-slice-aggregate-first-second c = sym (length-take-le _ _ (room (c .before)))
+slice-aggregate-first-second c = sym (length-take-le _ _ (room (c .before .before)))
 
 known-point-requires : tie.Need-known-point-requires
-known-point-requires c κs = plain-five _ (passed (c .before .before))
+known-point-requires c κs = plain-five _ (passed (c .before .before .before))
 
 first-second-requires : tie.Need-first-second-requires
 first-second-requires c κs =
-    let v = c .before .before in
+    let g = c .before .before in
+    let v = g .before in
     let b = start (v .before .before .before) .args .b .now in
-    ap₂ (acceptCheck coarse) (row v) (c .known-point .ensures) ∙ plain-passed b (passed (v .before)) .1
+    (λ j. acceptCheck (limitOf (g .grid .ensures j)) (row v j) (c .known-point .ensures j))
+    ∙ plain-passed b (passed (v .before)) .1
 
 enum-known-number : tie.Need-enum-known-number
 enum-known-number c = search needs
@@ -84,11 +89,13 @@ enum-known-number c = search needs
 returns-2 : tie.Need-returns-2
 returns-2 c =
     let k = c .before in
-    let v = k .before .before in
+    let g = k .before .before in
+    let v = g .before in
     let o = v .before .before .before in
     let i = start o .args in
     c .first-second .ensures
-    ∙ (λ j. chooseOf coarse (row v j) (k .known-point .ensures j) (candidatesOf (i .candidates .now)))
+    ∙ (λ j. chooseOf (limitOf (g .grid .ensures j)) (row v j) (k .known-point .ensures j)
+    (candidatesOf (i .candidates .now)))
     ∙ sym (choose-passed (i .b .now) (i .candidates .now) (tested o .if1 .left) (passed (v .before)))
 
 returns-3 : tie.Need-returns-3
@@ -107,6 +114,7 @@ choose-spec =
     enum-told
     vertex-count-requires
     mul-size
+    grid-requires
     array-share-prefix-scratch
     slice-aggregate-first-second
     known-point-requires

@@ -7,7 +7,8 @@ use native.Mathlib.Omega.{arith}
 use borrow.Author.Needs.{needs}
 use lib.IntN.{ℤ}
 use Rattle.sphere.specs.declared.point.Point.{Point}
-use Rattle.sphere.specs.Point.{coarse}
+use Rattle.sphere.specs.declared.point.Grid.{Grid}
+use Rattle.sphere.specs.Point.{limitOf}
 use Rattle.polygon.specs.Vertices.{vertexAt}
 use Rattle.polygon.specs.Pair.{isSecond}
 use Rattle.polygon.proofs.Laws.Search.{Searched, searched-start, searched-step, searched-hit, searched-end, tested}
@@ -16,15 +17,15 @@ use Rattle.sheet.proofs.Laws.Candidates.{chosen-accepted}
 use Rattle.sheet.proofs.choose.earliest.Statement.{statement}
 use Rattle.sheet.proofs.choose.earliest.Tie as tie
 
-abbrev passes : List ℤ → Point → List ℕ → ℕ → Bool
-passes vs X candidates i = isSecond coarse vs X (vertexAt (candidatesOf candidates) i)
+abbrev passes : Grid → List ℤ → Point → List ℕ → ℕ → Bool
+passes grid vs X candidates i = isSecond (limitOf grid) vs X (vertexAt (candidatesOf candidates) i)
 
 abbrev Inv-loop : tie.InvT-loop
-Inv-loop vertices boxes known candidates n i₀ i =
-    (i ≤ n) × Searched (passes vertices known candidates) (candidateCount candidates) i
+Inv-loop grid vertices boxes known candidates n i₀ i =
+    (i ≤ n) × Searched (passes grid vertices known candidates) (candidateCount candidates) i
 
 abbrev μ-loop : tie.MeasureT-loop
-μ-loop vertices boxes known candidates n i₀ i = n - i
+μ-loop grid vertices boxes known candidates n i₀ i = n - i
 
 loop-holds : tie.Need-loop-holds Inv-loop μ-loop
 loop-holds c = (omega arith, searched-start _ _)
@@ -39,17 +40,18 @@ is-second-requires c κs = search needs
 outcome : (c : tie.After-is-second Inv-loop μ-loop) {t : Bool} → c .is-second .result ≡ t →
     let l = c .before .before .before in
     let s = l .before .before .args in
-    passes (s .vertices .now) (s .known) (s .candidates .now) (l .loop .i) ≡ t
+    passes (s .grid) (s .vertices .now) (s .known) (s .candidates .now) (l .loop .i) ≡ t
 outcome c e =
     let s = c .before .before .before .before .before .args in
-    tested (isSecond coarse (s .vertices .now) (s .known)) (c .is-second .ensures) (c .before .candidate-at .ensures) e
+    tested (isSecond (limitOf (s .grid)) (s .vertices .now) (s .known)) (c .is-second .ensures)
+    (c .before .candidate-at .ensures) e
 
 returns : tie.Need-returns Inv-loop μ-loop
 returns c =
     let l = c .before .before .before in
     let start = l .before .before .before in
     let s = start .args in
-    sym (chosen-accepted (s .vertices .now) (s .known) (s .candidates .now) (start .pre .0)
+    sym (chosen-accepted (limitOf (s .grid)) (s .vertices .now) (s .known) (s .candidates .now) (start .pre .0)
     (searched-hit (l .loop-test .taken) (outcome (c .before) (c .if1 .taken)) (l .before .loop .inv .1)))
 
 add-i : tie.Need-add-i Inv-loop μ-loop
@@ -67,7 +69,7 @@ returns-2 : tie.Need-returns-2 Inv-loop μ-loop
 returns-2 c =
     let start = c .before .before .before in
     let s = start .args in
-    sym (chosen-accepted (s .vertices .now) (s .known) (s .candidates .now) (start .pre .0)
+    sym (chosen-accepted (limitOf (s .grid)) (s .vertices .now) (s .known) (s .candidates .now) (start .pre .0)
     (searched-end (c .loop-test .left) (c .before .loop .inv .1)))
 
 pub earliest-spec : {M : Type 1} → statement M

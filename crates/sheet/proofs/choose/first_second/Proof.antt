@@ -1,14 +1,13 @@
 -- `choose::first_second` meets its contract. Assumes nothing.
 use borrow.Author.Needs.{needs}
-use Rattle.sphere.specs.declared.point.Grid.the-variants.{Coarse}
-use Rattle.sphere.specs.Point.{coarse}
+use Rattle.sphere.specs.Point.{limitOf}
 use Rattle.polygon.specs.Accepted.{Accepted}
 use Rattle.polygon.proofs.Laws.Checks.{accept-passed, gridded-fine}
 use Rattle.judging.proofs.Laws.Stored.{stored-boxed}
 use Rattle.sheet.proofs.choose.first_second.Statement.{statement}
 use Rattle.sheet.proofs.choose.first_second.Tie as tie
 
-accepted : (c : tie.Start) → Accepted coarse (c .args .vertices .now) (c .args .known)
+accepted : (c : tie.Start) → Accepted (limitOf (c .args .grid)) (c .args .vertices .now) (c .args .known)
 accepted c = accept-passed (c .pre)
 
 slice-aggregate-fill : tie.Need-slice-aggregate-fill
@@ -16,7 +15,7 @@ slice-aggregate-fill c = search needs
 
 fill-requires : tie.Need-fill-requires
 fill-requires c κs = let a = accepted (c .before .before) in
-    (a .listed, gridded-fine Coarse (a .gridded), search needs)
+    (a .listed, gridded-fine (c .before .before .args .grid) (a .gridded), search needs)
 
 slice-aggregate-earliest : tie.Need-slice-aggregate-earliest
 slice-aggregate-earliest c = search needs

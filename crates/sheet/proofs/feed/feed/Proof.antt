@@ -7,13 +7,13 @@ use borrow.Author.Needs.{needs}
 use lib.IntN.{ℤ, pos}
 use lib.ListN.{length, take, replicate}
 use lib.Seq.{length-take-le, sets}
-use Rattle.sphere.specs.Point.{coarse}
+use Rattle.sphere.specs.Point.{limitOf}
 use Rattle.polygon.specs.declared.answer.Check.the-variants.{Passed}
 use Rattle.polygon.specs.Pair.{optionalCheck}
 use Rattle.batch.specs.Feed.{sizeCheck, feedBytes}
 use Rattle.batch.proofs.Laws.Ends.{size-passed}
 use Rattle.batch.proofs.Laws.Fed.{fed-stored}
-use Rattle.sheet.specs.Fields.{fiveFields}
+use Rattle.sheet.specs.Fields.{gridOf, fiveFields}
 use Rattle.sheet.specs.Sheet.{knownOf, verticesOf, secondOf, sheetCheck}
 use Rattle.sheet.proofs.Laws.Reads.{sheet-fields, sheet-sound, sheet-five, sheet-optional, opened-row}
 use Rattle.sheet.proofs.Laws.Reads.{opened-room}
@@ -100,19 +100,24 @@ known-point-requires c κs = sound (c .before)
 second-point-requires : tie.Need-second-point-requires
 second-point-requires c κs = sheet-sound _ (passed (c .before .before))
 
+grid-requires : tie.Need-grid-requires
+grid-requires c κs = sound (c .before .before .before)
+
 array-share-prefix-scratch : tie.Need-array-share-prefix-scratch
-array-share-prefix-scratch c = room (c .before .before)
+array-share-prefix-scratch c = room (c .before .before .before)
 
 slice-aggregate-judge-all : tie.Need-slice-aggregate-judge-all
-slice-aggregate-judge-all c = sym (length-take-le _ _ (room (c .before .before .before)))
+slice-aggregate-judge-all c = sym (length-take-le _ _ (room (c .before .before .before .before)))
 
 judge-all-requires : tie.Need-judge-all-requires
 judge-all-requires c κs =
-    let p = c .before .before in
+    let g = c .before .before in
+    let p = g .before in
     let v = p .before .before in
     let o = v .before .before .before in
     let i = start o .args in (
-      (λ j. optionalCheck coarse (row v j) (p .before .known-point .ensures j) (p .second-point .ensures j))
+      (λ j. optionalCheck (limitOf (g .grid .ensures j)) (row v j) (p .before .known-point .ensures j)
+          (p .second-point .ensures j))
           ∙ sheet-optional (i .sheet .now) (passed (v .before)),
       size-passed (i .queries .now) _ (sized (o .before .before)),
     )
@@ -122,7 +127,8 @@ same-length c = search needs
 
 returns-3 : tie.Need-returns-3
 returns-3 c =
-    let p = c .before .before .before .before .before in
+    let g = c .before .before .before .before .before in
+    let p = g .before in
     let k = p .before in
     let v = k .before in
     let o = v .before .before .before in
@@ -132,11 +138,12 @@ returns-3 c =
     let s = feed-by-sheet b (i .queries .now) _ z ∙ passed (v .before) in
     let w = feed-ends b (i .queries .now) (i .results .now) s in
     let enough = size-passed (i .queries .now) _ z in
-    let stored = fed-stored coarse (verticesOf b) (knownOf b) (secondOf b) (i .queries .now) _ enough in (
+    let limit = limitOf (gridOf b) in
+    let stored = fed-stored limit (verticesOf b) (knownOf b) (secondOf b) (i .queries .now) _ enough in (
       sym (w .answered),
       c .before .before .judge-all .ensures
-          ∙ (λ j. sets (i .results .now) 0 (feedBytes coarse (row v j) (k .known-point .ensures j)
-          (p .second-point .ensures j) (i .queries .now)))
+          ∙ (λ j. sets (i .results .now) 0 (feedBytes (limitOf (g .grid .ensures j)) (row v j)
+          (k .known-point .ensures j) (p .second-point .ensures j) (i .queries .now)))
           ∙ stored ∙ sym (w .filled),
     )
 
@@ -156,6 +163,7 @@ feed-spec =
     mul-size
     known-point-requires
     second-point-requires
+    grid-requires
     array-share-prefix-scratch
     slice-aggregate-judge-all
     judge-all-requires

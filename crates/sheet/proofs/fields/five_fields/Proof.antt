@@ -1,13 +1,13 @@
 -- `fields::five_fields` meets its contract. Assumes nothing.
 use mathlib.Core.List.{List}
-use mathlib.Core.Path.{_≡_, sym, _∙_}
-use Prim.Native.Nat.{ℕ}
+use mathlib.Core.Path.{_≡_, sym, ap, _∙_}
+use Prim.Native.Nat.{ℕ, _+_}
 use native.Mathlib.Omega.{arith}
 use borrow.Author.Needs.{needs}
 use Rattle.polygon.specs.declared.answer.Check.the-variants.{Passed}
 use Rattle.polygon.specs.Checks.{_then_}
 use Rattle.sheet.specs.Fields.{verticesCheck, fieldEnd, zoneCheck, charsetCheck, nameCheck, knownCheck}
-use Rattle.sheet.specs.Fields.{fiveFields}
+use Rattle.sheet.specs.Fields.{gridAt, tagOf, fiveFields}
 use Rattle.sheet.proofs.Laws.Checks.{then-failed, then-next}
 use Rattle.sheet.proofs.Laws.Fields.{passed-sound, charset-field}
 use Rattle.sheet.proofs.fields.five_fields.Statement.{statement}
@@ -114,26 +114,39 @@ returns-4 c =
 enum-told-4 : tie.Need-enum-told-4
 enum-told-4 c = search needs
 
-add-field-check : tie.Need-add-field-check
+add-at : tie.Need-add-at
 unfolding fieldEnd
-add-field-check c =
+add-at c =
     let k = c .before .before .before in
     let s = passed-sound 3 1 120 1 _ 11 (name (k .before)) in
     let e = k .known-start .ensures in
     omega arith
 
+grid-at-requires : tie.Need-grid-at-requires
+grid-at-requires c κs = search needs
+
+tag-requires : tie.Need-tag-requires
+tag-requires c κs = search needs
+
 field-check-requires-4 : tie.Need-field-check-requires-4
 field-check-requires-4 c κs =
-    let s = passed-sound 4 12 12 1 _ _ (known c) in
-    let e = c .before .before .before .known-start .ensures in
+    let d = c .before .before in
+    let s = passed-sound 4 12 12 1 _ _ (known d) in
+    let e = d .before .before .before .known-start .ensures in
     (omega arith, omega arith)
+
+-- The tag that the last field is to have.
+tagged : (c : tie.After-tag) →
+    c .tag .result ≡ tagOf (gridAt (three (c .before .before .before .before .before .before))
+    (c .before .before .before .before .before .known-start .result + 15))
+tagged c = c .tag .ensures ∙ ap tagOf (c .before .grid-at .ensures)
 
 returns-5 : tie.Need-returns-5
 unfolding fiveFields
 returns-5 c =
-    let d = c .before in
+    let d = c .before .before .before in
     let k = d .before .before .before in
-    let e = rw (k .known-start .ensures) at (c .field-check4 .ensures) in
+    let e = rw (tagged (c .before), k .known-start .ensures) at (c .field-check4 .ensures) in
     sym (from-known (k .before) ∙ then-next _ (known d) ∙ sym e)
 
 pub five-fields-spec : {M : Type 1} → statement M
@@ -157,6 +170,8 @@ five-fields-spec =
     enum-known-number-4
     returns-4
     enum-told-4
-    add-field-check
+    add-at
+    grid-at-requires
+    tag-requires
     field-check-requires-4
     returns-5)

@@ -5,13 +5,13 @@ use Prim.Native.Nat.{_*_, _≤_}
 use borrow.Author.Needs.{needs}
 use lib.ListN.{length, take}
 use lib.Seq.{length-take-le}
-use Rattle.sphere.specs.Point.{coarse}
+use Rattle.sphere.specs.Point.{limitOf}
 use Rattle.polygon.specs.declared.answer.Check.the-variants.{Passed}
 use Rattle.polygon.specs.Pair.{optionalCheck}
 use Rattle.judging.specs.Walk.{judgementOf}
 use Rattle.judging.specs.Called.{calledJudgementOf}
 use Rattle.judging.proofs.Laws.Called.{called-judgement}
-use Rattle.sheet.specs.Fields.{fiveFields}
+use Rattle.sheet.specs.Fields.{gridOf, fiveFields}
 use Rattle.sheet.specs.Sheet.{knownOf, verticesOf, secondOf, sheetCheck}
 use Rattle.sheet.specs.Judge.{sheetAnswerOf, sheetLookedOf, sheetJudgementOf}
 use Rattle.sheet.proofs.Laws.Reads.{sheet-fields, sheet-sound, sheet-five, sheet-optional, opened-row}
@@ -57,23 +57,28 @@ vertex-count-requires c κs = sound c
 mul-size : tie.Need-mul-size
 mul-size c = search needs
 
+grid-requires : tie.Need-grid-requires
+grid-requires c κs = sound (c .before)
+
 slice-reshare-prefix-judge-called : tie.Need-slice-reshare-prefix-judge-called
-slice-reshare-prefix-judge-called c = room c
+slice-reshare-prefix-judge-called c = room (c .before)
 
 slice-aggregate-judge-called : tie.Need-slice-aggregate-judge-called
-slice-aggregate-judge-called c = sym (length-take-le _ _ (room (c .before)))
+slice-aggregate-judge-called c = sym (length-take-le _ _ (room (c .before .before)))
 
 known-point-requires : tie.Need-known-point-requires
-known-point-requires c κs = sound (c .before .before)
+known-point-requires c κs = sound (c .before .before .before)
 
 second-point-requires : tie.Need-second-point-requires
-second-point-requires c κs = sheet-sound _ (passed (c .before .before .before))
+second-point-requires c κs = sheet-sound _ (passed (c .before .before .before .before))
 
 judge-called-requires : tie.Need-judge-called-requires
 judge-called-requires c κs =
     let k = c .before in
-    let v = k .before .before in
-    (λ i. optionalCheck coarse (row v i) (k .known-point .ensures i) (c .second-point .ensures i))
+    let g = k .before .before in
+    let v = g .before in
+    (λ i.
+    optionalCheck (limitOf (g .grid .ensures i)) (row v i) (k .known-point .ensures i) (c .second-point .ensures i))
     ∙ sheet-optional (start (v .before .before .before .before) .args .b .now) (passed (v .before))
 
 enum-known-number : tie.Need-enum-known-number
@@ -89,15 +94,16 @@ returns : tie.Need-returns
 unfolding sheetJudgementOf sheetAnswerOf sheetLookedOf judgementOf
 returns c =
     let k = c .before .before in
-    let v = k .before .before in
+    let g = k .before .before in
+    let v = g .before in
     let o = v .before .before .before .before in
     let i = start o .args in
     let b = i .b .now in (
       rw (passed (v .before))
           (c .judge-called .ensures
-          ∙ (λ j. calledJudgementOf coarse (row v j) (k .known-point .ensures j) (c .before .second-point .ensures j)
-          (i .query))
-          ∙ called-judgement coarse (verticesOf b) (knownOf b) (secondOf b) (i .query)
+          ∙ (λ j. calledJudgementOf (limitOf (g .grid .ensures j)) (row v j) (k .known-point .ensures j)
+          (c .before .second-point .ensures j) (i .query))
+          ∙ called-judgement (limitOf (gridOf b)) (verticesOf b) (knownOf b) (secondOf b) (i .query)
           (sheet-optional b (passed (v .before)))),
       o .open-into .ensures .1,
     )
@@ -121,6 +127,7 @@ judgement-in-spec =
     enum-told
     vertex-count-requires
     mul-size
+    grid-requires
     slice-reshare-prefix-judge-called
     slice-aggregate-judge-called
     known-point-requires

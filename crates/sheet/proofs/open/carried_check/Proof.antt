@@ -1,6 +1,6 @@
 -- `open::carried_check` meets its contract. Assumes nothing.
-use mathlib.Core.Path.{sym, ap₂, _∙_}
-use Rattle.sphere.specs.Point.{coarse}
+use mathlib.Core.Path.{sym, _∙_}
+use Rattle.sphere.specs.Point.{limitOf}
 use Rattle.polygon.specs.Checks.{acceptCheck}
 use Rattle.polygon.specs.Pair.{secondCheck}
 use Rattle.sheet.proofs.Laws.Reads.{fields-sound, plain-passed, plain-five, carried-none, carried-second}
@@ -10,26 +10,32 @@ use Rattle.sheet.proofs.open.carried_check.Tie as tie
 has-second-requires : tie.Need-has-second-requires
 has-second-requires c κs = plain-five _ (c .before .pre .0)
 
+grid-requires : tie.Need-grid-requires
+grid-requires c κs = plain-five _ (c .before .before .before .pre .0)
+
 known-point-requires : tie.Need-known-point-requires
-known-point-requires c κs = plain-five _ (c .before .before .before .pre .0)
+known-point-requires c κs = plain-five _ (c .before .before .before .before .pre .0)
 
 second-point-requires : tie.Need-second-point-requires
-second-point-requires c κs = fields-sound _ (plain-passed _ (c .before .before .before .before .pre .0) .0)
+second-point-requires c κs = fields-sound _ (plain-passed _ (c .before .before .before .before .before .pre .0) .0)
 
 second-check-requires : tie.Need-second-check-requires
 second-check-requires c κs =
-    let start = c .before .before .before .before .before in
-    ap₂ (acceptCheck coarse) (start .pre .1) (c .before .known-point .ensures)
+    let g = c .before .before in
+    let start = g .before .before .before .before in
+    (λ i. acceptCheck (limitOf (g .grid .ensures i)) (start .pre .1 i) (c .before .known-point .ensures i))
     ∙ plain-passed (start .args .b .now) (start .pre .0) .1
 
 returns : tie.Need-returns
 returns c =
     let k = c .before .before in
-    let h = k .before .before in
+    let g = k .before in
+    let h = g .before .before in
     let start = h .before .before in
-    let has = sym (h .has-second .ensures) ∙ k .before .if1 .taken in
+    let has = sym (h .has-second .ensures) ∙ g .before .if1 .taken in
     c .second-check .ensures
-    ∙ (λ i. secondCheck coarse (start .pre .1 i) (k .known-point .ensures i) (c .before .second-point .ensures i))
+    ∙ (λ i. secondCheck (limitOf (g .grid .ensures i)) (start .pre .1 i) (k .known-point .ensures i)
+    (c .before .second-point .ensures i))
     ∙ sym (carried-second (start .args .b .now) has .1)
 
 returns-2 : tie.Need-returns-2
@@ -42,6 +48,7 @@ carried-check-spec =
     tie.close
     (tie.spec
     has-second-requires
+    grid-requires
     known-point-requires
     second-point-requires
     second-check-requires

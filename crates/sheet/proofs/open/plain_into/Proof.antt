@@ -7,7 +7,7 @@ use borrow.Author.Needs.{needs}
 use lib.IntN.{ℤ}
 use lib.ListN.{length, take, drop}
 use lib.Seq.{length-take-le}
-use Rattle.sphere.specs.Point.{coarse}
+use Rattle.sphere.specs.Point.{limitOf}
 use Rattle.polygon.specs.declared.answer.Check.the-variants.{Passed}
 use Rattle.polygon.specs.Checks.{acceptCheck}
 use Rattle.sheet.specs.Fields.{fiveFields, fieldsCheck}
@@ -56,15 +56,16 @@ left c =
 -- What the polygon's check was asked.
 asked :
     (c : tie.After-accept-check) →
-    let i = c .before .before .before .before .before .before .before .before .before .before .before in
+    let i = c .before .before .before .before .before .before .before .before .before .before .before .before in
     c .accept-check .result ≡ plainCheck (i .args .b .now)
 asked c =
-    let d = c .before .before .before .before in
+    let g = c .before .before .before in
+    let d = g .before .before in
     let v = d .before .before in
     let b = v .before .before .before .before .before .args .b .now in
     let row = ap₂ (λ (k : ℕ) (l : List ℤ). take (k * 3) l) (v .vertex-count .ensures .0) (decoded d) ∙ loaded-row b _ in
     c .accept-check .ensures
-    ∙ ap₂ (acceptCheck coarse) row (c .before .known-point .ensures)
+    ∙ (λ j. acceptCheck (limitOf (g .grid .ensures j)) (row j) (c .before .known-point .ensures j))
     ∙ sym (plain-polygon b (passed (v .before)))
 
 fields-check-requires : tie.Need-fields-check-requires
@@ -93,20 +94,23 @@ decode-vertices-requires c κs =
 mul-size : tie.Need-mul-size
 mul-size c = search needs
 
+grid-requires : tie.Need-grid-requires
+grid-requires c κs = sound (c .before .before .before .before)
+
 slice-reshare-prefix-accept-check : tie.Need-slice-reshare-prefix-accept-check
 slice-reshare-prefix-accept-check c =
-    let k = c .before .decode-vertices .kept .1 .1 .0 in
-    let r = room (c .before .before .before) in
+    let k = c .before .before .decode-vertices .kept .1 .1 .0 in
+    let r = room (c .before .before .before .before) in
     omega arith
 
 slice-aggregate-accept-check : tie.Need-slice-aggregate-accept-check
 slice-aggregate-accept-check c =
-    let k = c .before .before .decode-vertices .kept .1 .1 .0 in
-    let r = room (c .before .before .before .before) in
-    sym (length-take-le _ (c .before .before .decode-vertices .last .1 .1 .0) (omega arith))
+    let k = c .before .before .before .decode-vertices .kept .1 .1 .0 in
+    let r = room (c .before .before .before .before .before) in
+    sym (length-take-le _ (c .before .before .before .decode-vertices .last .1 .1 .0) (omega arith))
 
 known-point-requires : tie.Need-known-point-requires
-known-point-requires c κs = sound (c .before .before .before .before .before)
+known-point-requires c κs = sound (c .before .before .before .before .before .before)
 
 accept-check-requires : tie.Need-accept-check-requires
 accept-check-requires c κs = search needs
@@ -115,7 +119,7 @@ same-length : tie.Need-same-length
 same-length c = search needs
 
 returns-2 : tie.Need-returns-2
-returns-2 c = (asked c, left (c .before .before .before .before))
+returns-2 c = (asked c, left (c .before .before .before .before .before))
 
 pub plain-into-spec : {M : Type 1} → statement M
 plain-into-spec =
@@ -128,6 +132,7 @@ plain-into-spec =
     vertex-count-requires
     decode-vertices-requires
     mul-size
+    grid-requires
     slice-reshare-prefix-accept-check
     slice-aggregate-accept-check
     known-point-requires

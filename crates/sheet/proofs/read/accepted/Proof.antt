@@ -39,6 +39,9 @@ vertex-count-requires c κs = five-passed _ (c .before .before .before .before .
 second-point-requires : tie.Need-second-point-requires
 second-point-requires c κs = search needs
 
+grid-requires : tie.Need-grid-requires
+grid-requires c κs = five-passed _ (c .before .before .before .before .before .before .before .pre)
+
 returns : tie.Need-returns
 returns c = cc
 
@@ -56,4 +59,5 @@ accepted-spec =
     known-point-requires
     vertex-count-requires
     second-point-requires
+    grid-requires
     returns)

@@ -55,7 +55,7 @@ returns c =
     let e4 = rw e3 at (c4 .put-place .ensures) in
     let e5 = rw e4 at (c5 .put-vertices .ensures) in
     (rw e5 at (c6 .put-second .ensures))
-    ∙ sheet-stored (s .zone) (s .charset) (s .name .now) (s .known) (s .vertices .now) (s .second) (s .b .now)
+    ∙ sheet-stored (s .zone) (s .charset) (s .name .now) (s .known) (s .grid) (s .vertices .now) (s .second) (s .b .now)
     _ _ _ refl refl refl
 
 pub put-sheet-spec : {M : Type 1} → statement M

@@ -11,7 +11,7 @@ use Rattle.sheet.proofs.write.write.Tie as tie
 passed :
     (c : tie.After-enum-told) →
     let i = c .before .before .before .before .before .args in
-    inputCheck (i .charset) (i .name .now) (i .known) (i .vertices .now) (i .second) ≡ Passed
+    inputCheck (i .charset) (i .name .now) (i .known) (i .grid) (i .vertices .now) (i .second) ≡ Passed
 passed c = sym (c .before .before .input-check .ensures) ∙ c .enum-told .given .1
 
 input-check-requires : tie.Need-input-check-requires
@@ -23,27 +23,27 @@ enum-known-number c = search needs
 returns : tie.Need-returns
 returns c =
     let e = sym (c .before .before .before .input-check .ensures) ∙ c .before .number .given .1 in
-    let w = write-refused _ _ _ _ _ (c .before .before .before .before .before .before .args .zone) _ e in
+    let w = write-refused _ _ _ _ _ _ (c .before .before .before .before .before .before .args .zone) _ e in
     (sym (w .answered), sym (w .filled))
 
 enum-told : tie.Need-enum-told
 enum-told c = search needs
 
 needed-for-requires : tie.Need-needed-for-requires
-needed-for-requires c κs = input-sizes _ _ _ _ _ (passed c)
+needed-for-requires c κs = input-sizes _ _ _ _ _ _ (passed c)
 
 returns-2 : tie.Need-returns-2
 returns-2 c =
     let d = c .before .before in
     let i = d .before .before .before .before .before .args in
     let n = c .before .needed-for .ensures in
-    let w = write-short _ _ _ _ _ (i .zone) (i .buffer .now) (passed d) (omega arith) in
+    let w = write-short _ _ _ _ _ _ (i .zone) (i .buffer .now) (passed d) (omega arith) in
     (rw n (sym (w .answered)), sym (w .filled))
 
 put-sheet-requires : tie.Need-put-sheet-requires
 put-sheet-requires c κs =
     let n = c .before .before .needed-for .ensures in
-    input-storable _ _ _ _ _ (passed (c .before .before .before)) _ (omega arith)
+    input-storable _ _ _ _ _ _ (passed (c .before .before .before)) _ (omega arith)
 
 same-length : tie.Need-same-length
 same-length c = search needs
@@ -54,7 +54,7 @@ returns-3 c =
     let d = k .before in
     let i = d .before .before .before .before .before .args in
     let n = k .needed-for .ensures in
-    let w = write-done _ _ _ _ _ (i .zone) (i .buffer .now) (passed d) (omega arith) in
+    let w = write-done _ _ _ _ _ _ (i .zone) (i .buffer .now) (passed d) (omega arith) in
     (rw n (sym (w .answered)), c .before .before .put-sheet .ensures ∙ sym (w .filled))
 
 pub write-spec : {M : Type 1} → statement M

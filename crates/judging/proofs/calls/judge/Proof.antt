@@ -1,0 +1,42 @@
+-- `judge` meets its contract: lines 10 and 28, and then the call on the outline's grid. Assumes nothing.
+use mathlib.Core.Path.{_≡_, sym, ap, _∙_}
+use mathlib.Core.List.{[], _∷_}
+use borrow.Author.Needs.{needs}
+use Rattle.polygon.specs.Grids.{isMixed, gridCheck, gridAnswerOf}
+use Rattle.judging.proofs.calls.judge.Statement.{statement}
+use Rattle.judging.proofs.calls.judge.Tie as tie
+
+is-mixed-requires : tie.Need-is-mixed-requires
+is-mixed-requires c κs = search needs
+
+grid-check-requires : tie.Need-grid-check-requires
+grid-check-requires c κs = search needs
+
+enum-told : tie.Need-enum-told
+enum-told c = search needs
+
+enum-known-number : tie.Need-enum-known-number
+enum-known-number c = search needs
+
+-- What lines 10 and 28 say.
+checked : (c : tie.After-grid-check) →
+    let a = c .before .before .args in
+    c .grid-check .result ≡ gridCheck (a .vertices .now) (isMixed (a .grid) (a .known .grid ∷ a .query .grid ∷ []))
+checked c =
+    c .grid-check .ensures ∙ ap (gridCheck (c .before .before .args .vertices .now)) (c .before .is-mixed .ensures)
+
+returns : tie.Need-returns
+unfolding gridAnswerOf
+returns c = rw (sym (checked (c .before .before .before)) ∙ c .before .number .given .1)
+
+judge-on-requires : tie.Need-judge-on-requires
+judge-on-requires c κs = search needs
+
+returns-2 : tie.Need-returns-2
+unfolding gridAnswerOf
+returns-2 c = rw (sym (checked (c .before .before .before)) ∙ c .before .enum-told .given .1) (c .judge-on .ensures)
+
+pub judge-spec : {M : Type 1} → statement M
+judge-spec =
+    tie.close
+    (tie.spec is-mixed-requires grid-check-requires enum-told enum-known-number returns judge-on-requires returns-2)
