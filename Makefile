@@ -18,13 +18,15 @@ CARGO := CARGO_TARGET_DIR=$(CURDIR)/target/cargo cargo
 run: bin
 	@cd crates/zone_judge/data && $(CURDIR)/target/bin/zone_judge < ../stdin
 
-# rt's last line, 'N passed, 0 failed', is held back until everything else has passed too.
+# A line a crate and an edit, as they come. rt's last line, 'N passed, 0 failed', is held back until everything else has
+# passed too.
 test:
-	@log=$$(mktemp); trap 'rm -f "$$log"' EXIT; \
+	@log=$$(mktemp); \
 	rt fmt --check; \
-	rt ci | tee "$$log" | sed '$$d' || { tail -n 1 "$$log"; exit 1; }; \
+	n=$$(cat <(grep '^[a-z]' crates.txt) <(ls crates/*/must-fail/*.edit) | wc -l); \
+	rt ci | tee "$$log" | tests/progress $$n || { echo "The whole log: $$log"; tail -n 40 "$$log"; exit 1; }; \
 	$(MAKE) --no-print-directory host-test; \
-	tail -n 1 "$$log"
+	tail -n 1 "$$log"; rm "$$log"
 
 lib:
 	@rt staticlib spargolutta >&2
@@ -40,7 +42,7 @@ install: lib
 
 host-test: lib bin
 	@$(CARGO) test --release --offline --quiet --manifest-path tests/Cargo.toml -- --nocapture \
-	| sed -e 's/^\.*//' -e '/^$$/d'
+	| sed -u -e 's/^\.*//' -e '/^$$/d'
 
 bench: lib bin
 	@$(CARGO) run --release --offline --quiet --manifest-path bench/Cargo.toml

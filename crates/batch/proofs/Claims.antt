@@ -1,5 +1,4 @@
--- The proofs of specs/Claims, in its order: feed-equals-single, refused-writes-nothing, feed-mixed-exactly. Assumes
--- nothing.
+-- The proofs of specs/Claims, in its order: feed-equals-single, refused-writes-nothing, feed-mixed-exactly.
 use mathlib.Core.Path.{_≡_, refl, ap}
 use mathlib.Core.Bool.{not}
 use mathlib.Core.List.{List, [], _∷_}

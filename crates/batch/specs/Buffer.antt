@@ -1,4 +1,4 @@
--- A buffer that was lent for writing, after the call. Defined: bufferAfter. Assumes nothing.
+-- A buffer that was lent for writing, after the call. Defined: bufferAfter.
 use mathlib.Core.List.{List, _++_}
 use Prim.Native.Nat.{ℕ}
 use lib.ListN.{length, drop}

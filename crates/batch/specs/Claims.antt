@@ -1,7 +1,7 @@
 -- The promised theorems, as statements. Their proofs are in proofs/Claims.
 -- Stated, in order: FeedEqualsSingle (a feed that succeeds answers each query as the single call does),
 -- RefusedWritesNothing, FeedMixedExactly (28). They are of the definitions that the contracts of `judge_feed` and
--- judging's `judge` cite. Assumes nothing.
+-- judging's `judge` cite.
 use mathlib.Core.Path.{_≡_}
 use mathlib.Core.List.{List, [], _∷_}
 use Prim.Native.Nat.{ℕ, _+_, _*_, _<_}

@@ -2,7 +2,7 @@
 -- Defined, in order: queryCount, queryAt, neededFor, resultBytes; sizeCheck (26, 27), feedCheck (26, 27, 10, 28, 11 to
 -- 16), feedOf (the answer); noSecond, resultOf (one query's result), resultsBytes, feedBytes (all of them), fedTo (the
 -- result buffer after the call). Queries and results are numbered from 0. A result is by the known point or, where the
--- query is opposite that, by the second one (document 02, P4); fedTo is of a feed that has none. Assumes nothing.
+-- query is opposite that, by the second one (document 02, P4); fedTo is of a feed that has none.
 use mathlib.Core.Bool.{not}
 use mathlib.Core.List.{List, [], _∷_, _++_}
 use Prim.Native.Nat.{ℕ, zero, suc, _*_, _/_, _%_}

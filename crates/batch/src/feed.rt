@@ -1,6 +1,6 @@
 // A whole feed in one call: document 02's P1. Here, in order: size_check (26, 27), feed_check (26, 27, 10, 28, 11 to
 // 16), store_result, judge_one, judge_each, judge_all, judge_feed. Nothing of the polygon is copied for a query, and
-// its boxes are built once. A second point that is all zero is none (document 02, P4). Assumes nothing.
+// its boxes are built once. A second point that is all zero is none (document 02, P4).
 ghost use mathlib.Core.Path.{_≡_};
 ghost use Prim.Native.Nat.{_+_, _*_, _≤_, _<_};
 ghost use lib.ListN.{length};

@@ -1,2 +1,2 @@
-// Many queries to one polygon: the polygon and its reference point are checked once. Assumes nothing.
+// Many queries to one polygon: the polygon and its reference point are checked once.
 pub mod feed;

@@ -1,5 +1,5 @@
 -- Laws of the definitions in specs/Bytes, a file for each topic: Signed (two's complement), Rows (decoding a row),
--- Stores (storing one), Written (what was written is read), Kept (what was read is written). Assumes nothing.
+-- Stores (storing one), Written (what was written is read), Kept (what was read is written).
 pub mod Signed
 pub mod Rows
 pub mod Stores

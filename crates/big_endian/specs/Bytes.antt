@@ -1,7 +1,7 @@
 -- Document 01, 'The zone sheet': numbers in a list of bytes, big-endian, coordinates in two's complement.
 -- Defined, in order: reading: byteAt, shortAt, wordAt, signed, intAt, pointAt, intsAt; writing: shortBytes, wordBytes,
 -- wordOf, intBytes, intsBytes, numbersOf, pointBytes; and AreBytes. A byte past the end of a list reads as 0. Laws:
--- proofs/Laws. Assumes nothing.
+-- proofs/Laws.
 use mathlib.Core.Bool.{cond}
 use mathlib.Core.List.{List, [], _∷_, _++_}
 use Prim.Native.Nat.{ℕ, zero, suc, _+_, _*_, _/_, _%_, _-_, _<_}

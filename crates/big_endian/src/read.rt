@@ -1,6 +1,6 @@
 // Numbers read from bytes.
 // Here, in order: wide, byte_at, short_at, word_at, to_signed, int_at, coordinate_at, point_at; decode (a row of
-// numbers). Assumes nothing.
+// numbers).
 ghost use mathlib.Core.Path.{_≡_};
 ghost use mathlib.Core.List.{_++_};
 ghost use Prim.Native.Nat.{_+_, _*_, _≤_, _<_};
@@ -48,7 +48,7 @@ pub fn to_signed(n: u32) -> i32
     }
 }
 
-pub fn int_at(b: &[u8], at: usize) -> i32
+fn int_at(b: &[u8], at: usize) -> i32
     requires { ⌜ at + 4 ≤ length (now b) ⌝ }
     ensures { λ r. ⌜ r ≡ intAt (now (b .entry)) at ⌝ }
 {

@@ -1,6 +1,5 @@
 // Numbers stored in bytes. A byte that is not named stays.
 // Here, in order: put_short, put_word, to_word, put_int, put_coordinate, put_point; put_ints, put_bytes (rows).
-// Assumes nothing.
 ghost use mathlib.Core.Path.{_≡_};
 ghost use Prim.Native.Nat.{_+_, _*_, _≤_};
 ghost use lib.ListN.{length};
@@ -38,7 +37,7 @@ pub fn to_word(x: i32) -> u32
     }
 }
 
-pub fn put_int(b: &mut [u8], at: usize, x: i32)
+fn put_int(b: &mut [u8], at: usize, x: i32)
     requires { ⌜ at + 4 ≤ length (now b) ⌝ }
     ensures { λ _. ⌜ now (b .exit) ≡ sets (now (b .entry)) at (intBytes x) ⌝ }
 {

@@ -1,6 +1,6 @@
 // Sheets on the fine grid, document 02's P8: tag 7 in place of tag 5, which stands at byte 30 of the octant's sheet.
 // Here, in order: fine_sheet, grid_number, print_grid, reading_back, write_on, octant_bytes, limits,
-// write_mixed, mixed, mixed_second, run. Assumes nothing of its own.
+// write_mixed, mixed, mixed_second, run.
 ghost use mathlib.Core.Path.{_≡_};
 ghost use lib.ListN.{length};
 use crate::given;

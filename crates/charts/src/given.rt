@@ -1,5 +1,5 @@
 // What the charts are made of.
-// Here, in order: LIMIT, OVER, point, coarse, fine, inner, beside, none, octant. Assumes nothing.
+// Here, in order: LIMIT, OVER, point, coarse, fine, inner, beside, none, octant.
 use sphere::point::Grid;
 use sphere::point::GridPoint;
 use sphere::point::Point;

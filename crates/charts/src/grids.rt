@@ -1,7 +1,7 @@
 // Document 02's P8: lists on the fine grid, and mixed grids, in each call over lists; buffers are compared after it.
 // The vertices of `narrow` and its queries are F1 to F3: their turns with edge 0 are 2, -2 and 0, and a float of 64
 // bits has the wrong sign, or is not 0. Here, in order: judge_fine, reached, narrow, judge_mixed, mixed, looked,
-// judge_pair, pairs, choose, chosen, query, result, feed_front, feed_once, feeds, run. Assumes nothing of its own.
+// judge_pair, pairs, choose, chosen, query, result, feed_front, feed_once, feeds, run.
 ghost use mathlib.Core.Path.{_≡_};
 ghost use Prim.Native.Nat.{_≤_};
 ghost use lib.ListN.{length};

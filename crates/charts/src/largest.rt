@@ -1,7 +1,7 @@
 // The largest sheet: a name of 120 bytes, the ring's 4,096 vertices and a second point, 32 + 120 + 49,152 + 15 bytes.
 // Its field of vertices begins at 11 + 123 + 15. The planes of the ring's edges are 2x = z, 2x = -z, 2y = z and
 // 2y = -z, so the second point (1, 0, 8) is off them, and inside.
-// Here, in order: write_ring, is_front, write_back, read_ring, run. Assumes nothing of its own.
+// Here, in order: write_ring, is_front, write_back, read_ring, run.
 ghost use Prim.Native.Nat.{_≤_};
 ghost use lib.ListN.{length};
 use crate::given;

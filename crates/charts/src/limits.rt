@@ -1,6 +1,6 @@
 // The limits of the grid. A query in the direction of the known point is inside and crosses nothing: both
 // orientations with it are zero.
-// Here, in order: reached, vertices, known_points, queries, run. Assumes nothing of its own.
+// Here, in order: reached, vertices, known_points, queries, run.
 use crate::given::LIMIT;
 use crate::given::OVER;
 use crate::given::point;

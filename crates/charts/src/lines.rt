@@ -1,5 +1,5 @@
 // One line of output for each chart. Here, in order: print_numbers, print_answer, print_same, judge, judge_list,
-// judge_octant, ask_octant, octant_from. Assumes nothing of its own.
+// judge_octant, ask_octant, octant_from.
 use crate::given;
 use judging::calls;
 use libc::STDOUT_FILENO;

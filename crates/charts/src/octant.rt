@@ -1,5 +1,5 @@
 // Document 01's table K1 to K14, and the case after 003 that is only run.
-// Here, in order: queries, changes, others, run. Assumes nothing of its own.
+// Here, in order: queries, changes, others, run.
 use crate::given::point;
 use crate::lines;
 use crate::lines::ask_octant;

@@ -1,6 +1,5 @@
 // Of 10 to 18 the lowest number that holds is given, over the whole list, and with it the lowest place.
 // Here, in order: places_of_vertices, places_of_edges, places_on_the_octant, pairs_of_lists, pairs_of_points, run.
-// Assumes nothing of its own.
 use crate::given;
 use crate::given::OVER;
 use crate::given::point;

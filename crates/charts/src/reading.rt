@@ -3,7 +3,7 @@
 // Its fields begin at 0 (zone number), 7 (character set), 11 (name), 15 (known point) and 30 (vertices); each has
 // its tag, two bytes of length and its body. The known point's numbers stand at 18, 22 and 26, the vertices at 33,
 // 45 and 57. Here, in order: octant_sheet, changed, read_front, print_read, name_byte, print_parts, print_changed,
-// print_cut, cuts, ends, tags, lengths, charsets, pairs, polygons, run. Assumes nothing of its own.
+// print_cut, cuts, ends, tags, lengths, charsets, pairs, polygons, run.
 ghost use mathlib.Core.Path.{_≡_};
 ghost use Prim.Native.Nat.{_≤_, _<_};
 ghost use lib.ListN.{length};

@@ -8,7 +8,7 @@
 // The coil goes round the octant again and again: vertex i is the octant's vertex i mod 3. After 1,365 rounds it has
 // 4,095 vertices and each edge of the octant 1,365 times. With one vertex more its last edge would join (1, 0, 0) to
 // itself.
-// Here, in order: coordinate, ring_x, ring_y, ring, coil. Assumes nothing.
+// Here, in order: coordinate, ring_x, ring_y, ring, coil.
 ghost use mathlib.Core.Path.{_≡_};
 ghost use Prim.Native.Nat.{_≤_};
 ghost use lib.ListN.{length};

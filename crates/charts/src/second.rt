@@ -1,7 +1,6 @@
 // A second point, document 02's P4: the octant's sheet with (1, 1, 2), read whole, cut and with bytes changed, and
 // judged by; and choosing one. Its sixth field begins at 69, its numbers stand at 72, 76 and 80. Here, in order:
-// print_changed, fields, points, handed_back, judge_front, judged, candidates, choose_front, chosen, run. Assumes
-// nothing of its own.
+// print_changed, fields, points, handed_back, judge_front, judged, candidates, choose_front, chosen, run.
 ghost use mathlib.Core.Path.{_≡_};
 ghost use Prim.Native.Nat.{_≤_, _<_};
 ghost use lib.ListN.{length};

@@ -1,5 +1,5 @@
 // The number of numbers in a list, and lists of 4,096 vertices. Here, in order: judge_front, of_octant, few,
-// of_ring, many, round_the_ring, of_coil, round_the_coil, run. Assumes nothing of its own.
+// of_ring, many, round_the_ring, of_coil, round_the_coil, run.
 ghost use Prim.Native.Nat.{_≤_};
 ghost use lib.ListN.{length};
 use crate::given;

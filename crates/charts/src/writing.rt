@@ -1,7 +1,7 @@
 // Writing the octant's sheet, and what is not written. After each call the bytes that had to stay are compared: all
 // of them after a refusal, those after the sheet after a success. Here, in order: blank, is_blank_from,
 // is_rest_kept, both, write_front, try_write, try_octant, try_known, try_second, try_list, is_front, octant_bytes,
-// successes, rooms, heads, lists, known_points, second_points, run. Assumes nothing of its own.
+// successes, rooms, heads, lists, known_points, second_points, run.
 ghost use mathlib.Core.Path.{_≡_};
 ghost use Prim.Native.Nat.{_≤_};
 ghost use lib.ListN.{length};

@@ -1,6 +1,6 @@
 // Whether an edge that holds the query is border: document 02's P3, by the boxes beside the polygon.
 // Here, in order: twins_in, twins_all, is_border, is_coast. An edge that joins the directions of c and d has an end in
-// that of c: it is in no run whose box lies strictly on one side of a plane through c. Assumes nothing.
+// that of c: it is in no run whose box lies strictly on one side of a plane through c.
 ghost use mathlib.Core.Path.{_≡_};
 ghost use Prim.Native.Nat.{_*_, _-_, _<_};
 ghost use Rattle.integers.specs.Sign.{signOf};

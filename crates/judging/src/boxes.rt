@@ -1,6 +1,6 @@
 // Boxes beside the polygon: document 02's P2.
 // Here, in order: Bounds; lesser, greater, least, greatest, run_count, run_end, run_box (one run's box); put_number,
-// put_corner, put_box, fill (all of them, in one array of numbers); end_at, end_for, corner, is_apart. Assumes nothing.
+// put_corner, put_box, fill (all of them, in one array of numbers); end_at, end_for, corner, is_apart.
 ghost use mathlib.Core.Path.{_≡_};
 ghost use Prim.Native.Nat.{_+_, _*_, _≤_, _<_};
 ghost use mathlib.Core.Bool.{cond};
@@ -66,7 +66,7 @@ fn greatest(p: Point, q: Point) -> Point
 }
 
 // How many runs of 32 edges n edges have.
-pub fn run_count(n: usize) -> usize
+pub(crate) fn run_count(n: usize) -> usize
     requires { ⌜ n ≤ 4096 ⌝ }
     ensures { λ r. ⌜ r ≡ runCount n ⌝ }
 {
@@ -74,7 +74,7 @@ pub fn run_count(n: usize) -> usize
 }
 
 // The first edge after run r.
-pub fn run_end(n: usize, r: usize) -> usize
+pub(crate) fn run_end(n: usize, r: usize) -> usize
     requires { ⌜ r < 128 ⌝ }
     ensures { λ to. ⌜ to ≡ runEnd n r ⌝ }
 {
@@ -177,7 +177,7 @@ fn corner(normal: Point, boxes: &[i32], at: usize, a: usize, b: usize) -> Point
 }
 
 // The whole box of run r lies strictly on one side of the plane. The sums are exact on either grid.
-pub fn is_apart(plane: Plane, boxes: &[i32], r: usize) -> bool
+pub(crate) fn is_apart(plane: Plane, boxes: &[i32], r: usize) -> bool
     requires { ⌜ Sound plane × (r * 6 + 6 ≤ length (now boxes)) ⌝ }
     requires { ⌜ Within (limitOf (plane .grid)) (boxAt (now boxes) r .low)
         × Within (limitOf (plane .grid)) (boxAt (now boxes) r .high) ⌝ }

@@ -1,6 +1,5 @@
 // The calls over lists, which take any records of points. Here, in order: judge, looked, judge_pair, choose_second.
-// Each record says its grid, and mixed grids are refused (document 02, P8): a list has its grid beside it. Assumes
-// nothing.
+// Each record says its grid, and mixed grids are refused (document 02, P8): a list has its grid beside it.
 ghost use mathlib.Core.Path.{_≡_};
 ghost use Rattle.polygon.specs.Grids.{gridAnswerOf, gridPairOf, gridChooseOf};
 ghost use Rattle.judging.specs.Walk.{gridLookedOf};

@@ -1,6 +1,6 @@
 // Judging a query on one grid. Here, in order: by_parity, verdict_on; Judgement, refused, judge_boxed, judge_accepted,
 // judge_query, judge_on, looked_on. Document 01, 'What comes back'; document 02, P2: each call builds its own boxes, a
-// feed once. What users call is in `calls`. Assumes nothing.
+// feed once. What users call is in `calls`.
 ghost use mathlib.Core.Path.{_≡_};
 ghost use Rattle.sphere.specs.Point.{limitOf};
 ghost use Rattle.polygon.specs.declared.answer.Answer.the-variants.{Refused};
@@ -58,7 +58,7 @@ pub fn refused(number: u32, place: usize) -> Judgement
 }
 
 // One query to an accepted polygon with its boxes: a caller with many queries builds them once.
-pub fn judge_boxed(
+pub(crate) fn judge_boxed(
     grid: Grid,
     vertices: &[i32],
     boxes: &[i32],
@@ -91,7 +91,7 @@ pub fn judge_boxed(
 }
 
 // One query to an accepted polygon.
-pub fn judge_accepted(grid: Grid, vertices: &[i32], known: Point, query: Point) -> Judgement
+fn judge_accepted(grid: Grid, vertices: &[i32], known: Point, query: Point) -> Judgement
     requires { ⌜ acceptCheck (limitOf grid) (now vertices) known ≡ Passed ⌝ }
     ensures { λ r. ⌜ r ≡ judgementOf (limitOf grid) (now (vertices .entry)) known query ⌝ }
 {
@@ -100,7 +100,7 @@ pub fn judge_accepted(grid: Grid, vertices: &[i32], known: Point, query: Point) 
     judge_boxed(grid, vertices, &boxes, known, query)
 }
 
-pub fn judge_query(grid: Grid, vertices: &[i32], known: Point, query: Point) -> Answer
+fn judge_query(grid: Grid, vertices: &[i32], known: Point, query: Point) -> Answer
     requires { ⌜ acceptCheck (limitOf grid) (now vertices) known ≡ Passed ⌝ }
     ensures { λ r. ⌜ r ≡ answerOf (limitOf grid) (now (vertices .entry)) known query ⌝ }
 {

@@ -1,5 +1,5 @@
 // Scans past edges and runs that cannot matter: the inner loops of the walk. Here, in order: Near, past_sure,
-// skip_fine, skip, next_near, last_inner, side_at (edges); next_run (runs). Assumes nothing.
+// skip_fine, skip, next_near, last_inner, side_at (edges); next_run (runs).
 ghost use mathlib.Core.Path.{_≡_};
 ghost use Prim.Native.Nat.{_+_, _-_, _≤_, _<_};
 ghost use Rattle.integers.specs.Sign.{signOf};

@@ -1,7 +1,7 @@
 // The walk over a polygon's edges: document 01's 'When the arc crosses a side', and document 02's P2. Here, in order:
 // Met, meet (one edge); counted, Tally, tally_by, walk_edges (some edges); looked_in, Walk, walk_runs (all, run by
 // run). The plane through the reference point and the query has its normal worked out once, and each vertex that the
-// walk comes to its side of it. Assumes nothing.
+// walk comes to its side of it.
 ghost use mathlib.Core.Path.{_≡_};
 ghost use mathlib.Core.Bool.{cond};
 ghost use Prim.Native.Nat.{_+_, _*_, _-_, _≤_, _<_};

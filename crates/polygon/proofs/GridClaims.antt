@@ -1,6 +1,6 @@
 -- The proofs of specs/GridClaims. Proved, in order: answer-other, pair-other, choose-other (what follows 28 has another
 -- number), mixed-exactly-holds; listed-answer, listed-pair, listed-choose (it begins with line 10 itself),
--- one-grid-holds; on-each-grid-holds. Assumes nothing.
+-- one-grid-holds; on-each-grid-holds.
 use mathlib.Core.Path.{_≡_, refl, sym}
 use mathlib.Core.Bool.{false, not}
 use mathlib.Core.List.{List, [], _∷_}

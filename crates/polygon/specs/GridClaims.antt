@@ -1,6 +1,6 @@
 -- The promised theorems of document 02's P8, as statements. Their proofs are in proofs/GridClaims. Stated, in order:
 -- MixedExactly (28 if and only if line 10 passes and a record is on another grid), OneGrid (with equal grids the answer
--- is as without 28), OnEachGrid (demands 2 and 3, for one known point and for two). Assumes nothing.
+-- is as without 28), OnEachGrid (demands 2 and 3, for one known point and for two).
 use mathlib.Core.Path.{_≡_}
 use mathlib.Core.Bool.{Bool, true, not}
 use mathlib.Core.List.{List, [], _∷_}

@@ -1,7 +1,7 @@
 -- Document 02, P8: every record of points says its grid, and mixed grids in one call are refused: 28, after line 10 and
 -- before line 11. Defined, in order: isSame, isMixed, gridCheck (10, 28), gridOfSecond; gridAnswerOf, gridPairOf,
 -- gridChooseOf (the calls' answers to any records). What follows 28 is by the outline's grid, as without it: it begins
--- with line 10 itself. Claims: specs/GridClaims. Assumes nothing.
+-- with line 10 itself. Claims: specs/GridClaims.
 use mathlib.Core.Bool.{Bool, true, false, not, _||_, cond}
 use mathlib.Core.List.{List, [], _∷_}
 use lib.IntN.{ℤ}

@@ -2,7 +2,7 @@
 // Here, in order: fails_if; list_check (10), beyond_check (11), null_check (12), same_check (13), antipodal_check (14),
 // reference_check (15), circle_check (16), query_check (17), far_check (18); polygon_check (10 to 14); accepts,
 // is_accepted, accept_check (10 to 16). Each check of the list passes over it once and reads each vertex once. Those
-// after line 11 rest on the grid. Assumes nothing.
+// after line 11 rest on the grid.
 ghost use mathlib.Core.Path.{_≡_};
 ghost use Rattle.sphere.specs.Point.{fine, limitOf, Within};
 ghost use Rattle.polygon.specs.declared.answer.Check.the-variants.{Passed};
@@ -72,7 +72,7 @@ pub fn null_check(vertices: &[i32]) -> Check
     Check::Passed
 }
 
-pub fn same_check(vertices: &[i32]) -> Check
+fn same_check(vertices: &[i32]) -> Check
     requires { ⌜ Listed (now vertices) × Gridded fine (now vertices) ⌝ }
     ensures { λ r. ⌜ r ≡ sameCheck (now (vertices .entry)) ⌝ }
 {
@@ -88,7 +88,7 @@ pub fn same_check(vertices: &[i32]) -> Check
     Check::Passed
 }
 
-pub fn antipodal_check(vertices: &[i32]) -> Check
+fn antipodal_check(vertices: &[i32]) -> Check
     requires { ⌜ Listed (now vertices) × Gridded fine (now vertices) ⌝ }
     ensures { λ r. ⌜ r ≡ antipodalCheck (now (vertices .entry)) ⌝ }
 {
@@ -111,7 +111,7 @@ pub fn reference_check(grid: Grid, known: Point) -> Check
 }
 
 // The reference point on the great circle of an edge.
-pub fn circle_check(grid: Grid, vertices: &[i32], known: Point) -> Check
+fn circle_check(grid: Grid, vertices: &[i32], known: Point) -> Check
     requires { ⌜ Listed (now vertices) × Gridded (limitOf grid) (now vertices) × Within (limitOf grid) known ⌝ }
     ensures { λ r. ⌜ r ≡ circleCheck (now (vertices .entry)) known ⌝ }
 {

@@ -1,5 +1,5 @@
 // Mixed grids in one call: document 02's P8. Here, in order: is_fine, is_same, is_mixed (two records beside the
-// outline's), is_mixed_of_three, grid_check (10, 28), grid_of_second. Assumes nothing.
+// outline's), is_mixed_of_three, grid_check (10, 28), grid_of_second.
 ghost use mathlib.Core.Path.{_≡_};
 ghost use mathlib.Core.List.{[], _∷_};
 ghost use Rattle.sphere.specs.declared.point.Grid.the-variants.{Fine};

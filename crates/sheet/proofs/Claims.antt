@@ -1,6 +1,6 @@
 -- The claims of specs/Claims, proved.
 -- Proved, in order: read-never-ten, sheet-size, read-writes-back, written-reads-back, sheet-answers-as-list. The
--- octant's sheets are in proofs/Octant, the feed in proofs/Fed. Assumes nothing.
+-- octant's sheets are in proofs/Octant, the feed in proofs/Fed.
 use mathlib.Core.Path.{_≡_, refl, sym, ap, _∙_}
 use mathlib.Core.Bool.{Bool, true, false, cond}
 use mathlib.Core.List.{List, [], _∷_, _++_, append-nil}

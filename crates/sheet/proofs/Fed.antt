@@ -1,5 +1,4 @@
 -- A feed by a sheet answers each query as the single call by the sheet does. Proved: sheet-feed-equals-single.
--- Assumes nothing.
 use mathlib.Core.Path.{_≡_, refl, sym, subst}
 use mathlib.Core.List.{List}
 use Prim.Native.Nat.{ℕ}

@@ -2,7 +2,7 @@
 -- the sixth), Stores (the bytes of a sheet, stored), Accepted (what the checks tell of a list and its points), Bodies
 -- (one field, written and read), Second (the sixth, written and read), Written (the bytes of a sheet, read), Kept (a
 -- sheet that was read, written), Numbers (the numbers of refusals), Reads (what reading hands back), Feeds (how a feed
--- ends), Candidates (choosing from bytes), Writes (what writing does). Assumes nothing.
+-- ends), Candidates (choosing from bytes), Writes (what writing does).
 pub mod Checks
 pub mod Fields
 pub mod Stores

@@ -1,4 +1,4 @@
--- Writing on mixed grids: 28, exactly after 23, 22 and 10. Proved: write-mixed-exactly. Assumes nothing.
+-- Writing on mixed grids: 28, exactly after 23, 22 and 10. Proved: write-mixed-exactly.
 use mathlib.Core.Bool.{Bool, true, false, not, cond}
 use mathlib.Core.List.{List, [], _∷_}
 use Prim.Native.Nat.{ℕ}

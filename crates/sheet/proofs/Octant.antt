@@ -1,6 +1,6 @@
 -- The octant's sheets, byte by byte, and what is read and judged of them. The checker computes all of it, so every
 -- definition that it goes through is opened here. Proved: octant-sheet, octant-pair-sheet,
--- octant-fine-sheet. Assumes nothing.
+-- octant-fine-sheet.
 use mathlib.Core.Path.{refl}
 use Rattle.sphere.specs.Point.{isFar, isBeyond, isNull, isOffGrid}
 use Rattle.sphere.specs.Orientation.{orientationOf, crossOf, dotOf}

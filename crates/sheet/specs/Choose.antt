@@ -1,6 +1,6 @@
 -- Document 02, P4: choosing a second point for a sheet, from a list of candidates of twelve bytes each. They are on the
 -- sheet's grid, and its own second point is not looked at. Defined, in order: candidateCount, candidatesOf, wholeCheck
--- (10), sheetChooseOf. Assumes nothing.
+-- (10), sheetChooseOf.
 use mathlib.Core.Bool.{not}
 use mathlib.Core.List.{List}
 use Prim.Native.Nat.{ℕ, _*_, _/_, _%_}

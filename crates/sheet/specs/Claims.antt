@@ -5,8 +5,7 @@
 -- OctantPairSheet (the same with a second point, 84 bytes), OctantFineSheet (the same with tag 7), SheetAnswersAsList
 -- (judging by a sheet is judging by the list and the points in it, so that polygon's claims hold of it),
 -- SheetFeedEqualsSingle (a feed by a sheet answers each query as the single call does). They are of the definitions
--- that the contracts of `read`, `load`, `write`, `judge` and `feed` cite. A second point of all zero is none. Assumes
--- nothing.
+-- that the contracts of `read`, `load`, `write`, `judge` and `feed` cite. A second point of all zero is none.
 use mathlib.Core.Path.{_≡_}
 use mathlib.Core.Bool.{not}
 use mathlib.Core.List.{List, [], _∷_, _++_}

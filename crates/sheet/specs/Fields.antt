@@ -3,7 +3,7 @@
 -- knownStart, verticesStart, gridAt, gridOf, tagOf (document 02, P8), secondStart, hasSecond, sheetEnd; zoneCheck,
 -- isCharset, charsetCheck, isNameLength, nameCheck, knownCheck, verticesCheck, fiveFields; secondField (document 02,
 -- P4: tag 6, which may be missing), sheetFields (20 to 23), restCheck (24), fieldsCheck. A field begins at its tag.
--- What the fields mean is in specs/Sheet. Assumes nothing.
+-- What the fields mean is in specs/Sheet.
 use mathlib.Core.Bool.{Bool, not, _&&_, cond}
 use mathlib.Core.List.{List}
 use Prim.Native.Nat.{ℕ, _+_, _%_}

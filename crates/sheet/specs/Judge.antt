@@ -2,7 +2,7 @@
 -- and a query opposite the known point is judged from the second point, if the sheet has one (document 02, P4).
 -- Defined, in order: sheetAnswerOf, sheetLookedOf, sheetJudgementOf; sheetFeedCheck (26 and 27 come before 20),
 -- sheetFeedOf, sheetFedTo. Document 01, 'The zone sheet', on the importer's calls. Queries are on their sheet's grid
--- (document 02, P8). Assumes nothing.
+-- (document 02, P8).
 use mathlib.Core.List.{List}
 use Prim.Native.Nat.{ℕ}
 use lib.ListN.{length}

@@ -1,7 +1,7 @@
 -- Document 01, 'The zone sheet', second layer: what the fields mean, and what reading hands back. Defined, in order:
 -- zoneOf, charsetOf, nameAt, nameLength, nameOf, knownOf, vertexCountOf, verticesOf, secondOf; plainCheck (20 to 24,
 -- then 11 to 16), carriedCheck (19), sheetCheck (all of them); refusedSheet, readAfter, readOf; loadedOf, roomFor,
--- decodedOf. On bytes that are no sheet the parts mean nothing and only sheetCheck counts. Assumes nothing.
+-- decodedOf. On bytes that are no sheet the parts mean nothing and only sheetCheck counts.
 use mathlib.Core.Bool.{cond}
 use mathlib.Core.List.{List, _++_}
 use Prim.Native.Nat.{ℕ, _+_, _*_, _-_, _/_}

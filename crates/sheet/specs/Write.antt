@@ -1,7 +1,7 @@
 -- Document 01, 'The zone sheet': the bytes of a sheet, and what writing one does on every input.
 -- Defined, in order: fieldBytes, secondBytes, secondSize, sheetBytes, neededFor, Storable; inputCheck (23, 22, 10,
 -- 28, 11 to 16, 19), writeCheck (25 too), writeOf, writtenTo. A second point of all zero is none (document 02, P4), and
--- has no grid (P8). Assumes nothing.
+-- has no grid (P8).
 use mathlib.Core.Bool.{not, cond}
 use mathlib.Core.List.{List, [], _∷_, _++_}
 use Prim.Native.Nat.{ℕ, _+_, _*_, _≤_, _<_}

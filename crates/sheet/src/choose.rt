@@ -1,6 +1,6 @@
 // Choosing a second point for a sheet: document 02's P4. Any bytes; nothing is written.
 // Here, in order: candidate_at, earliest, first_second, choose. Candidates have twelve bytes each, and there is any
-// number of them: they are decoded one at a time. Assumes nothing.
+// number of them: they are decoded one at a time.
 ghost use mathlib.Core.Path.{_≡_};
 ghost use Prim.Native.Nat.{_<_};
 ghost use Rattle.sphere.specs.Point.{limitOf};

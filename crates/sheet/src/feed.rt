@@ -1,5 +1,5 @@
 // A feed judged by a sheet's bytes: document 02's P1. Any bytes.
-// Here, in order: feed_check, feed_answer (nothing is written), feed. Assumes nothing.
+// Here, in order: feed_check, feed_answer (nothing is written), feed.
 ghost use mathlib.Core.Path.{_≡_};
 ghost use lib.ListN.{length};
 ghost use Rattle.sheet.specs.Judge.{sheetFeedCheck, sheetFeedOf, sheetFedTo};

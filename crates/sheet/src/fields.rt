@@ -2,7 +2,7 @@
 // Here, in order: is_allowed, field_check (one field), is_charset, charset_check, known_start, grid_at, tag,
 // five_fields, vertices_start, grid, second_start, has_second, second_field, sheet_fields (20 to 23), sheet_end,
 // fields_check (20 to 24).
-// A later field is looked at only where those before it have passed. Assumes nothing.
+// A later field is looked at only where those before it have passed.
 ghost use mathlib.Core.Path.{_≡_};
 ghost use Prim.Native.Nat.{_+_, _≤_, _<_};
 ghost use lib.ListN.{length};

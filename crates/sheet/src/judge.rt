@@ -1,6 +1,6 @@
 // Judging by a sheet's bytes, from its known point or, for a query opposite that, from its second point. Any bytes and
 // any query; nothing is written. Here, in order: judgement_in, judgement (the answer, and the number of edges looked
-// at), judge, looked. Assumes nothing.
+// at), judge, looked.
 ghost use mathlib.Core.Path.{_≡_};
 ghost use Prim.Native.Nat.{_≤_};
 ghost use lib.ListN.{length};

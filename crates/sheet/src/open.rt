@@ -1,7 +1,7 @@
 // A sheet's polygon: where it stands, and its checks. Inside this crate only.
 // Here, in order: vertex_count, known_point, second_point, decode_vertices; plain_into, carried_check, open_into;
 // open_plain, open. They decode into scratch space of the callers here; what users lend is written by `read::load` and
-// by nothing here. Assumes nothing.
+// by nothing here.
 ghost use mathlib.Core.Path.{_≡_};
 ghost use mathlib.Core.List.{_++_};
 ghost use Prim.Native.Nat.{_*_, _≤_};

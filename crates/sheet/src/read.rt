@@ -1,4 +1,4 @@
-// Reading a sheet. Here, in order: Sheet, refused, accepted, sheet_check, read, load. Any bytes. Assumes nothing.
+// Reading a sheet. Here, in order: Sheet, refused, accepted, sheet_check, read, load. Any bytes.
 ghost use mathlib.Core.Path.{_≡_};
 ghost use Rattle.polygon.specs.declared.answer.Check.the-variants.{Passed};
 ghost use Rattle.sheet.specs.Fields.{sheetFields};

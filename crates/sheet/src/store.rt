@@ -1,6 +1,5 @@
 // Storing a sheet, field by field. A byte that is not named stays.
 // Here, in order: put_head, put_zone, put_charset, put_name, put_place (a point), put_vertices, put_second; put_sheet.
-// Assumes nothing.
 ghost use mathlib.Core.Path.{_≡_};
 ghost use mathlib.Core.List.{[], _∷_};
 ghost use Prim.Native.Nat.{_+_, _*_, _≤_, _<_};

@@ -1,6 +1,6 @@
 // Writing a sheet, from any input into any buffer.
 // Here, in order: input_check (23, 22, 10, 28, 11 to 16, 19), second_size, needed_for, write (25 too). A second point
-// of all zero is none, and has no grid. Assumes nothing.
+// of all zero is none, and has no grid.
 ghost use mathlib.Core.Path.{_≡_};
 ghost use Prim.Native.Nat.{_≤_};
 ghost use lib.ListN.{length};

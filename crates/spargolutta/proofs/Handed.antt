@@ -1,5 +1,5 @@
 -- A number of C's that is handed on is the same number. Proved, in order: handed,
--- handed-answer. Assumes nothing.
+-- handed-answer.
 use mathlib.Core.Path.{_≡_, ap}
 use mathlib.Core.List.{List}
 use Prim.Native.Nat.{ℕ}

@@ -1,4 +1,4 @@
--- A query as C hands it over: three numbers. Defined: queryOf. Assumes nothing.
+-- A query as C hands it over: three numbers. Defined: queryOf.
 use lib.IntN.{ℤ}
 use Rattle.sphere.specs.declared.point.Point.{Point}
 

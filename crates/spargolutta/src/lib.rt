@@ -1,6 +1,6 @@
 // The C boundary: functions over a sheet's bytes and a query's three numbers, or a feed's or candidates' bytes, each
 // returning one number. Declared for C in include/spargolutta.h; nothing checks that declaration against this source.
-// Only spg_feed_number writes, and nothing is kept between calls. Assumes nothing.
+// Only spg_feed_number writes, and nothing is kept between calls.
 ghost use mathlib.Core.Path.{_≡_};
 ghost use lib.ListN.{length};
 ghost use Rattle.polygon.specs.Answer.{numberOf, placeOf, countOf, sumOf};

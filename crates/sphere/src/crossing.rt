@@ -1,6 +1,6 @@
 // One edge crossed by the arc from the reference point to the query, and which way (document 02, P6).
 // Here, in order: changes_side, is_beside, crossing_by, crossing_from. Document 01, 'When the arc crosses a
-// side'. Only the signs of the four orientations matter, so a side is any number with the sign. Assumes nothing.
+// side'. Only the signs of the four orientations matter, so a side is any number with the sign.
 ghost use mathlib.Core.Path.{_≡_};
 ghost use Rattle.integers.specs.Sign.{signOf, unitOf};
 ghost use Rattle.sphere.specs.Point.{limitOf, Within};

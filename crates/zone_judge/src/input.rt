@@ -1,5 +1,5 @@
 // What the program reads: the sheet's file, and standard input in pieces of whole queries.
-// Here, in order: read_sheet, read_queries. Assumes nothing.
+// Here, in order: read_sheet, read_queries.
 
 ghost use mathlib.Core.Path.{_≡_};
 ghost use Prim.Native.Nat.{_%_, _≤_};

@@ -1,5 +1,5 @@
 // Judging the queries of standard input, piece by piece: each piece is one feed.
-// Here, in order: judge_whole, put_lines, judge_piece, judge_all. Assumes nothing.
+// Here, in order: judge_whole, put_lines, judge_piece, judge_all.
 
 ghost use mathlib.Core.Path.{_≡_};
 ghost use Prim.Native.Nat.{_*_, _≤_, _<_};

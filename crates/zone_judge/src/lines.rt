@@ -1,5 +1,5 @@
 // Lines of output, put into a buffer: number, place and count, parted by single spaces.
-// Here, in order: digit_count, put_number, put_line, put_result, put_answer, print. Assumes nothing.
+// Here, in order: digit_count, put_number, put_line, put_result, put_answer, print.
 
 ghost use Prim.Native.Nat.{_+_, _≤_};
 ghost use lib.ListN.{length};

@@ -4,7 +4,7 @@
 // A refused sheet gives one line, its number, place and 0, and nothing else. A file that is missing or cannot be read
 // counts as an empty sheet. A cut query at the end gives 20, the number of whole queries before it, and 0. Reading,
 // judging and writing lie apart, in `input`, `judging` and `lines`. Proved: each function is safe and ends. What the
-// library answers is proved in `sheet` and the crates under it. Assumes nothing.
+// library answers is proved in `sheet` and the crates under it.
 mod input;
 mod judging;
 mod lines;

@@ -1,5 +1,5 @@
 -- How a feed ends. Defined: FeedPassed, Ends. Proved, in order: size-passed, feed-passed (what its checks establish);
--- feed-refused, feed-done (its answer and its result buffer on each way). Assumes nothing.
+-- feed-refused, feed-done (its answer and its result buffer on each way).
 use mathlib.Core.Path.{_≡_}
 use mathlib.Core.Bool.{not}
 use mathlib.Core.List.{List, [], _∷_}

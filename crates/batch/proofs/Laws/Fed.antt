@@ -1,6 +1,6 @@
 -- The result buffer of a feed whose checks passed, whatever they were. Proved, in order: feedBytes-length, fed-front,
 -- fed-stored (what the code stores is what the definition says), fed-results (result i is the single call's), fed-same
--- (of two calls that answer alike). Assumes nothing.
+-- (of two calls that answer alike).
 use mathlib.Core.Path.{_≡_, sym, ap, subst, _∙_}
 use mathlib.Core.List.{List, _++_}
 use Prim.Native.Nat.{ℕ, _+_, _*_, _≤_}

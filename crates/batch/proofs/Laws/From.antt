@@ -1,6 +1,5 @@
 -- The point that judges (document 02, P4). Proved, in order: none-null, from-none (without a second point it is the
--- first), optional-none, from-accepted (the polygon accepts it). Other laws of it are in polygon's Laws/Pair. Assumes
--- nothing.
+-- first), optional-none, from-accepted (the polygon accepts it). Other laws of it are in polygon's Laws/Pair.
 use mathlib.Core.Path.{_≡_, refl}
 use mathlib.Core.Bool.{true}
 use mathlib.Core.List.{List}

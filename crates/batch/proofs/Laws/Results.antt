@@ -1,6 +1,6 @@
 -- The bytes of results, stored and read. Proved, in order: resultBytes-length, result-stored (three words);
 -- resultsBytes-length, results-more (a turn of the loop), result-at (result i among all); word-behind, result-split,
--- result-read (its words). Assumes nothing.
+-- result-read (its words).
 use mathlib.Core.Path.{_≡_, refl, sym, ap, _∙_}
 use mathlib.Core.Logic.{⊎-elim}
 use mathlib.Core.List.{List, _++_, append-assoc}

@@ -1,6 +1,5 @@
 -- The answer to a query of an accepted polygon has a number, a place and a count of 32 bits: no result loses any.
 -- Defined: Small. Proved, in order: after-small (17 and 18), parity-small, verdict-small, answer-small.
--- Assumes nothing.
 use mathlib.Core.Path.{_≡_, refl}
 use mathlib.Core.Bool.{Bool, true, false, cond}
 use mathlib.Core.List.{List}

@@ -1,5 +1,5 @@
 -- What was read is written: from `at` on, a list of bytes goes on with the bytes of the number that it has there.
--- Proved, in order: short-kept, wordOf-signed, word-kept, int-kept, ints-kept, point-kept. Assumes nothing.
+-- Proved, in order: short-kept, wordOf-signed, word-kept, int-kept, ints-kept, point-kept.
 use mathlib.Core.Path.{_≡_, refl, sym, ap, _∙_}
 use mathlib.Core.Bool.{Bool, true, false, cond}
 use mathlib.Core.List.{List, _∷_, _++_, append-assoc}

@@ -1,5 +1,5 @@
 -- Decoding a row of numbers, one a turn.
--- Proved, in order: intsAt-length, intsAt-snoc, filled-none, filled-more. Assumes nothing.
+-- Proved, in order: intsAt-length, intsAt-snoc, filled-none, filled-more.
 use mathlib.Core.Path.{_≡_, refl, sym, ap, _∙_}
 use mathlib.Core.List.{List, [], _∷_, _++_, append-assoc}
 use Prim.Native.Nat.{ℕ, zero, suc, _+_, _*_, _<_}

@@ -1,5 +1,5 @@
 -- Signed numbers where the code crosses zero.
--- Proved, in order: below-zero, above-zero, is-pos, is-neg, widens, narrows, held. Assumes nothing.
+-- Proved, in order: below-zero, above-zero, is-pos, is-neg, widens, narrows, held.
 use mathlib.Core.Path.{_≡_, refl, sym, _∙_}
 use mathlib.Core.Bool.{true, false, true≢false, false≢true}
 use Prim.Native.Nat.{ℕ, zero, suc, _-_, _^_, _<_}

@@ -1,6 +1,6 @@
 -- Storing a row of bytes, a part a turn.
 -- Proved, in order: stored-on, intBytes-length, intsBytes-length, intsBytes-append, bytes-more, ints-more,
--- point-stored. Assumes nothing.
+-- point-stored.
 use mathlib.Core.Path.{_≡_, refl, sym, ap, _∙_}
 use mathlib.Core.List.{List, [], _∷_, _++_, append-assoc, append-nil}
 use Prim.Native.Nat.{ℕ, suc, _+_, _*_, _<_}

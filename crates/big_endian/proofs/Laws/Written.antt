@@ -1,6 +1,6 @@
 -- What was written is read: a list b that goes on, from `at`, with the bytes of a number, has that number at `at`.
 -- Proved, in order: byte-written, first-written, short-written, word-written, signed-wordOf, wordOf-bound,
--- int-written, ints-written, point-written. Assumes nothing.
+-- int-written, ints-written, point-written.
 use mathlib.Core.Path.{_≡_, refl, sym, ap, ap₂, _∙_}
 use mathlib.Core.List.{List, [], _∷_, _++_, append-assoc}
 use Prim.Native.Nat.{ℕ, zero, suc, _+_, _/_, _%_, _-_, _<_}

@@ -1,5 +1,5 @@
 -- One edge. Proved, in order: beside-met (ends strictly on one side), way-told (which way it is crossed, by the four
--- orientations). Assumes nothing.
+-- orientations).
 use mathlib.Core.Path.{_≡_}
 use mathlib.Core.Bool.{true}
 use mathlib.Core.List.{List}

@@ -1,5 +1,5 @@
 -- 28, and nothing else that has this number (document 02, P8). Defined: Other. Proved, in order: mixed-after (28 after
--- some checks, where what follows has another number), listed-other, accept-other. Assumes nothing.
+-- some checks, where what follows has another number), listed-other, accept-other.
 use mathlib.Core.Path.{_≡_, refl}
 use mathlib.Core.Bool.{Bool, true, false, not}
 use mathlib.Core.List.{List}

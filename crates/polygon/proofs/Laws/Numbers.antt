@@ -1,6 +1,6 @@
 -- The numbers that a check may refuse with, by any property of them. Defined: Numbered. Proved, in order:
 -- passed-numbered, failed-numbered, then-numbered, fails-here-numbered, fails-if-numbered, fails-at-numbered,
--- after-numbered (of an answer); polygon-numbered, accept-numbered, judge-numbered, answer-numbered. Assumes nothing.
+-- after-numbered (of an answer); polygon-numbered, accept-numbered, judge-numbered, answer-numbered.
 use mathlib.Core.Path.{_≡_, refl, subst}
 use mathlib.Core.Bool.{Bool, true, false, not}
 use mathlib.Core.List.{List}

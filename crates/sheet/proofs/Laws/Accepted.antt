@@ -1,6 +1,6 @@
 -- What an accepted list and known point are known to be: the checks 10, 11 and 15, in numbers. Proved, in order:
 -- whole-passed, list-check, accepted-list, accepted-known, accepted-number; fits-word, within-word (such numbers fit 32
--- bits); null-none; optional-check, optional-small (a second point, or none). Assumes nothing.
+-- bits); null-none; optional-check, optional-small (a second point, or none).
 use mathlib.Core.Path.{_≡_, refl, sym}
 use mathlib.Core.Bool.{Bool, true, false, true≢false}
 use mathlib.Core.List.{List}

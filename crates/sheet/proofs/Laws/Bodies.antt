@@ -1,6 +1,6 @@
 -- One field that was written, or read: a list b that goes on, from `at`, with the field's bytes.
 -- Proved, in order: tag-written, length-written, body-written, rest-written, end-written, field-written (its check
--- passes); field-kept (a field that was read is written as it stood). Assumes nothing.
+-- passes); field-kept (a field that was read is written as it stood).
 use mathlib.Core.Path.{_≡_, refl, sym, ap, _∙_}
 use mathlib.Core.Bool.{Bool, true}
 use mathlib.Core.List.{List, _∷_, _++_, append-assoc}

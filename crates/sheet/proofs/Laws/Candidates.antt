@@ -1,6 +1,6 @@
 -- Candidates in bytes (document 02, P4). Proved, in order: int-at, candidate-point (candidate i stands at byte 12i),
 -- candidates-whole, candidates-count; chosen-accepted (choosing, where the polygon is accepted), choose-short,
--- choose-passed, choose-failed (how choosing by a sheet ends). Assumes nothing.
+-- choose-passed, choose-failed (how choosing by a sheet ends).
 use mathlib.Core.Path.{_≡_, sym, ap, _∙_}
 use mathlib.Core.Bool.{true}
 use mathlib.Core.List.{List}

@@ -1,5 +1,5 @@
 -- Chains of checks. Proved, in order: and-true, then-failed, then-next.
--- What a check that passed establishes is a law of polygon. Assumes nothing.
+-- What a check that passed establishes is a law of polygon.
 use mathlib.Core.Path.{_≡_, refl}
 use mathlib.Core.Bool.{Bool, true, false, false≢true, _&&_}
 use Prim.Native.Nat.{ℕ}

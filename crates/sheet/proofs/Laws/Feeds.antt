@@ -1,5 +1,5 @@
 -- How a feed by a sheet's bytes ends, by the outcome of its checks.
--- Proved, in order: feed-by-size, feed-by-sheet; Ends, feed-ends (its answer and its result buffer). Assumes nothing.
+-- Proved, in order: feed-by-size, feed-by-sheet; Ends, feed-ends (its answer and its result buffer).
 use mathlib.Core.Path.{_≡_, ap}
 use mathlib.Core.List.{List}
 use Prim.Native.Nat.{ℕ}

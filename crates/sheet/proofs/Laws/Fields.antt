@@ -2,7 +2,6 @@
 -- field-passed (what the check of a field says in each case), passed-field (and back), allowed-bounds, bounds-allowed,
 -- passed-sound (a field that passed, as numbers), charset-field; passed-fields, passed-spans (a sheet whose five fields
 -- passed); five-passed, second-missing, second-passed, second-body, end-plain, end-carried, end-within (and its sixth).
--- Assumes nothing.
 use mathlib.Core.Path.{_≡_, refl}
 use mathlib.Core.Bool.{Bool, true, false}
 use mathlib.Core.List.{List}

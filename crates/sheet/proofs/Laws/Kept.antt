@@ -1,5 +1,5 @@
 -- A sheet that was read, written: each field is stored as it stood.
--- Proved, in order: nameOf-length, verticesOf-length, sheet-kept. Assumes nothing.
+-- Proved, in order: nameOf-length, verticesOf-length, sheet-kept.
 use mathlib.Core.Path.{_≡_, sym, ap, _∙_}
 use mathlib.Core.List.{List, [], _∷_, _++_}
 use Prim.Native.Nat.{ℕ, _+_, _*_}

@@ -1,6 +1,6 @@
 -- The numbers of the refusals: a check that fails has a number above the given one, so it is told from success and
 -- from 10. Defined: Above. Proved, in order: above-then, above-here; above-fields, above-accept, above-second,
--- above-sheet (reading: above 10), above-write (writing: above 9). Assumes nothing.
+-- above-sheet (reading: above 10), above-write (writing: above 9).
 use mathlib.Core.Path.{_≡_, refl, sym}
 use mathlib.Core.Bool.{Bool, true, false, not, cond}
 use mathlib.Core.List.{List, [], _∷_}

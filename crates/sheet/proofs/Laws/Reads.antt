@@ -1,7 +1,7 @@
 -- What reading hands back and leaves, case by case. Proved, in order: fields-sound, fields-five, plain-passed,
 -- plain-five, plain-unsound, plain-polygon; carried-none, carried-second; sheet-plain, sheet-fields, sheet-five,
 -- sheet-accepted, sheet-optional, sheet-failed, sheet-carried; read-refused, read-accepted; loaded-by, decoded-by,
--- loaded-row, loaded-room, opened-row, opened-room. Assumes nothing.
+-- loaded-row, loaded-room, opened-row, opened-room.
 use mathlib.Core.Path.{_≡_, refl, sym, ap, ap₂, _∙_}
 use mathlib.Core.Bool.{Bool, true, false, cond}
 use mathlib.Core.List.{List, _++_}

@@ -1,5 +1,5 @@
 -- The second point in a sheet's bytes, or none. Proved, in order, of one that was written: none-written, some-written,
--- second-field-written, second-written, end-second; of one that was read: size-kept, second-kept. Assumes nothing.
+-- second-field-written, second-written, end-second; of one that was read: size-kept, second-kept.
 use mathlib.Core.Path.{_≡_, refl, sym, ap, _∙_}
 use mathlib.Core.Bool.{Bool, true, false, cond}
 use mathlib.Core.List.{List, [], _++_, append-nil}

@@ -1,5 +1,5 @@
 -- The bytes of a sheet, stored field by field. Proved, in order: field-stored, wordBytes-length, fieldBytes-length,
--- secondBytes-length, sheet-stored, sheetBytes-length. Assumes nothing.
+-- secondBytes-length, sheet-stored, sheetBytes-length.
 use mathlib.Core.Path.{_≡_, refl, ap, _∙_}
 use mathlib.Core.Bool.{Bool, true, false, cond}
 use mathlib.Core.List.{List, [], _∷_, _++_}

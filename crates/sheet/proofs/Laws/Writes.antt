@@ -1,6 +1,6 @@
 -- What writing answers and leaves, case by case.
 -- Proved, in order: passed-writable, input-sizes, input-storable (what input that passes is known to be);
--- write-refused, write-short, write-done (the three ways that writing ends). Assumes nothing.
+-- write-refused, write-short, write-done (the three ways that writing ends).
 use mathlib.Core.Path.{_≡_, sym, ap, _∙_}
 use mathlib.Core.List.{List, [], _∷_, _++_}
 use Prim.Native.Nat.{ℕ, _+_, _≤_, _<_}

@@ -1,6 +1,6 @@
 -- The bytes of a sheet, read: each field is found where it was written. Proved, in order: zone-written,
 -- charset-written, name-written, known-written, grid-written, count-written, vertices-written, fields-written (its
--- fields pass), second-back, reads-as (reading hands back its parts). Assumes nothing.
+-- fields pass), second-back, reads-as (reading hands back its parts).
 use mathlib.Core.Path.{_≡_, refl, ap, _∙_}
 use mathlib.Core.Bool.{Bool, true, false, cond}
 use mathlib.Core.List.{List, [], _∷_, _++_}

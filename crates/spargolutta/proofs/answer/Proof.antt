@@ -1,4 +1,4 @@
--- `answer` meets its contract. Assumes nothing.
+-- `answer` meets its contract.
 use mathlib.Core.Path.{_∙_, ap}
 use borrow.Author.Needs.{needs}
 use Rattle.sheet.specs.Judge.{sheetAnswerOf}

@@ -1,4 +1,4 @@
--- `query` meets its contract: each of C's three numbers is widened, and stays the same. Assumes nothing.
+-- `query` meets its contract: each of C's three numbers is widened, and stays the same.
 use mathlib.Core.Path.{_∙_}
 use borrow.Author.Needs.{needs}
 use mir.Syntax.{w64}

@@ -1,4 +1,4 @@
--- `spg_feed_place` meets its contract. Assumes nothing.
+-- `spg_feed_place` meets its contract.
 use mathlib.Core.Path.{_∙_, ap}
 use borrow.Author.Needs.{needs}
 use Rattle.polygon.specs.Answer.{placeOf}

@@ -1,4 +1,4 @@
--- `spg_judge_looked` meets its contract. Assumes nothing.
+-- `spg_judge_looked` meets its contract.
 use mathlib.Core.Path.{_∙_, ap}
 use borrow.Author.Needs.{needs}
 use Rattle.sheet.specs.Judge.{sheetLookedOf}

@@ -1,4 +1,4 @@
--- `spg_judge_number` meets its contract. Assumes nothing.
+-- `spg_judge_number` meets its contract.
 use mathlib.Core.Path.{_∙_, ap}
 use borrow.Author.Needs.{needs}
 use Rattle.polygon.specs.Answer.{numberOf}

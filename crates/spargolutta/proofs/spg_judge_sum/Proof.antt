@@ -1,4 +1,4 @@
--- `spg_judge_sum` meets its contract. Assumes nothing.
+-- `spg_judge_sum` meets its contract.
 use mathlib.Core.Path.{_∙_, ap}
 use borrow.Author.Needs.{needs}
 use mir.Syntax.{w32}

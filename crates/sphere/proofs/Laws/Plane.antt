@@ -1,6 +1,6 @@
 -- Laws of a plane. Proved, in order: grid→fine (a point of either grid is one of the fine grid), plane-sound; range-at,
 -- point-at, fine-exact (what is known where the grid is); plane-made, made-within, made-turn (of a plane through two
--- points). Defined: Made. Assumes nothing.
+-- points). Defined: Made.
 use mathlib.Core.Path.{_≡_, sym, ap, _∙_, subst}
 use Rattle.sphere.specs.declared.point.Point.{Point}
 use Rattle.sphere.specs.declared.point.Grid.{Grid}

@@ -1,4 +1,4 @@
--- `feed_check` meets its contract. Assumes nothing.
+-- `feed_check` meets its contract.
 use mathlib.Core.Path.{_≡_, sym, ap, _∙_}
 use mathlib.Core.List.{[], _∷_}
 use borrow.Author.Needs.{needs}

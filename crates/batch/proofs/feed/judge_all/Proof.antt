@@ -1,4 +1,4 @@
--- `judge_all` meets its contract. Assumes nothing.
+-- `judge_all` meets its contract.
 use borrow.Author.Needs.{needs}
 use Rattle.sphere.specs.Point.{limitOf}
 use Rattle.polygon.specs.Accepted.{Accepted}

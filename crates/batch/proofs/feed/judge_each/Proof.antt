@@ -1,4 +1,4 @@
--- `judge_each` meets its contract: before query i the first i results are stored. Assumes nothing.
+-- `judge_each` meets its contract: before query i the first i results are stored.
 use mathlib.Core.Path.{_≡_, refl, _∙_}
 use Prim.Native.Nat.{_-_, _≤_}
 use native.Mathlib.Omega.{arith}

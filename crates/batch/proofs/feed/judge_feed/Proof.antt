@@ -1,4 +1,4 @@
--- `judge_feed` meets its contract. Assumes nothing.
+-- `judge_feed` meets its contract.
 use mathlib.Core.Path.{_≡_, sym, _∙_}
 use borrow.Author.Needs.{needs}
 use lib.ListN.{length}

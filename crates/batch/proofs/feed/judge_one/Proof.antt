@@ -1,4 +1,4 @@
--- `judge_one` meets its contract: the answer's place has 32 bits, as the polygon is accepted. Assumes nothing.
+-- `judge_one` meets its contract: the answer's place has 32 bits, as the polygon is accepted.
 use mathlib.Core.Path.{_≡_, ap, _∙_}
 use native.Mathlib.Omega.{arith}
 use borrow.Author.Needs.{needs}

@@ -1,4 +1,4 @@
--- `size_check` meets its contract. Assumes nothing.
+-- `size_check` meets its contract.
 use borrow.Author.Needs.{needs}
 use borrow.Author.Tests.{eq-eqb, ne-eqb, lt-ltb, le-ltb}
 use Rattle.batch.specs.Feed.{sizeCheck}

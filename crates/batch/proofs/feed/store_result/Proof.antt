@@ -1,4 +1,4 @@
--- `store_result` meets its contract. Assumes nothing.
+-- `store_result` meets its contract.
 use mathlib.Core.Path.{_∙_}
 use borrow.Author.Needs.{needs}
 use Rattle.batch.proofs.Laws.Results.{result-stored}

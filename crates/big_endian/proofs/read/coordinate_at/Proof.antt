@@ -1,4 +1,4 @@
--- `read::coordinate_at` meets its contract. Assumes nothing.
+-- `read::coordinate_at` meets its contract.
 use mathlib.Core.Path.{refl}
 use borrow.Author.Needs.{needs}
 use mir.Syntax.{w32, w64}

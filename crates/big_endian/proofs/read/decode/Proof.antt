@@ -1,4 +1,4 @@
--- `read::decode` meets its contract. Assumes nothing.
+-- `read::decode` meets its contract.
 use mathlib.Core.Path.{_≡_, refl}
 use mathlib.Core.List.{_++_}
 use Prim.Native.Nat.{_-_, _≤_}

@@ -1,4 +1,4 @@
--- `read::int_at` meets its contract. Assumes nothing.
+-- `read::int_at` meets its contract.
 use mathlib.Core.Path.{ap, _∙_}
 use borrow.Author.Needs.{needs}
 use mir.Syntax.{w32}

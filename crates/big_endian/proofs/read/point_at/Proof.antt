@@ -1,4 +1,4 @@
--- `read::point_at` meets its contract. Assumes nothing.
+-- `read::point_at` meets its contract.
 use borrow.Author.Needs.{needs}
 use mir.Syntax.{w64}
 use Rattle.big_endian.specs.Bytes.{pointAt}

@@ -1,4 +1,4 @@
--- `read::short_at` meets its contract. Assumes nothing.
+-- `read::short_at` meets its contract.
 use borrow.Author.Needs.{needs}
 use Rattle.big_endian.specs.Bytes.{shortAt}
 use Rattle.big_endian.proofs.read.short_at.Statement.{statement}

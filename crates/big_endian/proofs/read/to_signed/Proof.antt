@@ -1,4 +1,4 @@
--- `read::to_signed` meets its contract. Assumes nothing.
+-- `read::to_signed` meets its contract.
 use Prim.Native.Nat.{ℕ, _-_, _^_, _<_}
 use native.Mathlib.Omega.{arith}
 use borrow.Author.Tests.{lt-ltb, le-ltb}

@@ -1,4 +1,4 @@
--- `read::word_at` meets its contract. Assumes nothing.
+-- `read::word_at` meets its contract.
 use borrow.Author.Needs.{needs}
 use Rattle.big_endian.specs.Bytes.{wordAt}
 use Rattle.big_endian.proofs.read.word_at.Statement.{statement}

@@ -1,4 +1,4 @@
--- `store::put_coordinate` meets its contract. Assumes nothing.
+-- `store::put_coordinate` meets its contract.
 use borrow.Author.Needs.{needs}
 use mir.Syntax.{w32, w64}
 use mir.ValLaws.{toZ-ofZ}

@@ -1,4 +1,4 @@
--- `store::put_int` meets its contract. Assumes nothing.
+-- `store::put_int` meets its contract.
 use mathlib.Core.Path.{ap, _∙_}
 use borrow.Author.Needs.{needs}
 use mir.Syntax.{w32}

@@ -1,4 +1,4 @@
--- `store::put_ints` meets its contract. Assumes nothing.
+-- `store::put_ints` meets its contract.
 use mathlib.Core.Path.{_≡_, refl, _∙_}
 use Prim.Native.Nat.{_-_, _≤_, _<_}
 use native.Mathlib.Omega.{arith}

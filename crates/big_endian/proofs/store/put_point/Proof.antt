@@ -1,4 +1,4 @@
--- `store::put_point` meets its contract. Assumes nothing.
+-- `store::put_point` meets its contract.
 use mathlib.Core.Path.{_≡_, _∙_}
 use borrow.Author.Needs.{needs}
 use lib.IntN.{ℤ}

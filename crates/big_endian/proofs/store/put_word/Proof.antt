@@ -1,4 +1,4 @@
--- `store::put_word` meets its contract. Assumes nothing.
+-- `store::put_word` meets its contract.
 use native.Mathlib.Omega.{arith}
 use native.Mathlib.Numerals.{towards-suc}
 use borrow.Author.Needs.{needs}

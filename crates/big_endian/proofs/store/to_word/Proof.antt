@@ -1,5 +1,4 @@
 -- `to_word` meets its contract: where x is below zero it is -(k + 1), and -1 - x is k.
--- Assumes nothing.
 use mathlib.Core.Path.{_≡_, sym, ap, _∙_}
 use native.Mathlib.Omega.{arith}
 use lib.IntN.{pos, negsuc}

@@ -1,4 +1,4 @@
--- `grids::feed_front` meets its contract. Assumes nothing.
+-- `grids::feed_front` meets its contract.
 use mathlib.Core.Path.{sym}
 use borrow.Author.Needs.{needs}
 use lib.Seq.{length-take-le}

@@ -1,4 +1,4 @@
--- `largest::is_front` meets its contract. Assumes nothing.
+-- `largest::is_front` meets its contract.
 use Prim.Native.Nat.{_-_, _≤_}
 use borrow.Author.Needs.{needs}
 use Rattle.charts.proofs.largest.is_front.Statement.{statement}

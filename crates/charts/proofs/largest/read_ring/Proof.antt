@@ -1,4 +1,4 @@
--- `largest::read_ring` meets its contract. Assumes nothing.
+-- `largest::read_ring` meets its contract.
 use mathlib.Core.Path.{sym}
 use borrow.Author.Needs.{needs}
 use lib.Seq.{length-take-le}

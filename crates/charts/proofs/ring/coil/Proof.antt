@@ -1,4 +1,4 @@
--- `ring::coil` meets its contract: the array keeps its length. Assumes nothing.
+-- `ring::coil` meets its contract: the array keeps its length.
 use mathlib.Core.Path.{_≡_}
 use Prim.Native.Nat.{_-_, _≤_}
 use native.Mathlib.Omega.{arith}

@@ -1,4 +1,4 @@
--- `second::choose_front` meets its contract. Assumes nothing.
+-- `second::choose_front` meets its contract.
 use mathlib.Core.Path.{sym}
 use native.Mathlib.Omega.{arith}
 use borrow.Author.Needs.{needs}

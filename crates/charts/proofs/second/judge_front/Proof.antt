@@ -1,4 +1,4 @@
--- `second::judge_front` meets its contract. Assumes nothing.
+-- `second::judge_front` meets its contract.
 use mathlib.Core.Path.{sym}
 use borrow.Author.Needs.{needs}
 use lib.Seq.{length-take-le}

@@ -1,4 +1,4 @@
--- `sizes::judge_front` meets its contract. Assumes nothing.
+-- `sizes::judge_front` meets its contract.
 use mathlib.Core.Path.{sym}
 use borrow.Author.Needs.{needs}
 use lib.Seq.{length-take-le}

@@ -1,4 +1,4 @@
--- `writing::is_blank_from` meets its contract. Assumes nothing.
+-- `writing::is_blank_from` meets its contract.
 use Prim.Native.Nat.{_-_}
 use borrow.Author.Needs.{needs}
 use lib.ListN.{length}

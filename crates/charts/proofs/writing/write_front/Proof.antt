@@ -1,4 +1,4 @@
--- `writing::write_front` meets its contract. Assumes nothing.
+-- `writing::write_front` meets its contract.
 use mathlib.Core.Path.{sym}
 use borrow.Author.Needs.{needs}
 use lib.Seq.{length-take-le}

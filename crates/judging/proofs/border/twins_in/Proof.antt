@@ -1,4 +1,4 @@
--- `twins_in` meets its contract: a run whose box is apart has no such edge. Assumes nothing.
+-- `twins_in` meets its contract: a run whose box is apart has no such edge.
 use mathlib.Core.Path.{_≡_, sym, _∙_}
 use mathlib.Core.Bool.{true}
 use Prim.Native.Nat.{_*_, _-_, _<_}

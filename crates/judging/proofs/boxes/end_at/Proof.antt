@@ -1,4 +1,4 @@
--- `end_at` meets its contract. Assumes nothing.
+-- `end_at` meets its contract.
 use mathlib.Core.Path.{sym, _∙_}
 use mir.Syntax.{w64}
 use Rattle.integers.proofs.Compare.{negative-test}

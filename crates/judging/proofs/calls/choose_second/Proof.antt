@@ -1,5 +1,5 @@
 -- `choose_second` meets its contract: line 10 for the candidates, lines 10 and 28 for the outline, and then the call on
--- the outline's grid. Assumes nothing.
+-- the outline's grid.
 use mathlib.Core.Path.{_≡_, sym, ap, _∙_}
 use mathlib.Core.List.{[], _∷_}
 use borrow.Author.Needs.{needs}

@@ -1,4 +1,4 @@
--- `judge` meets its contract: lines 10 and 28, and then the call on the outline's grid. Assumes nothing.
+-- `judge` meets its contract: lines 10 and 28, and then the call on the outline's grid.
 use mathlib.Core.Path.{_≡_, sym, ap, _∙_}
 use mathlib.Core.List.{[], _∷_}
 use borrow.Author.Needs.{needs}

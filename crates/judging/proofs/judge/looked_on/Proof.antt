@@ -1,4 +1,4 @@
--- `looked_on` meets its contract. Assumes nothing.
+-- `looked_on` meets its contract.
 use mathlib.Core.Path.{sym, _∙_, ap}
 use borrow.Author.Needs.{needs}
 use Rattle.polygon.specs.Checks.{judgeCheck}

@@ -1,4 +1,4 @@
--- `choose_on` meets its contract. Assumes nothing.
+-- `choose_on` meets its contract.
 use mathlib.Core.Path.{_≡_, sym, _∙_}
 use borrow.Author.Needs.{needs}
 use borrow.Author.Tests.{eq-eqb, ne-eqb}

@@ -1,4 +1,4 @@
--- `judge_pair_on` meets its contract. Assumes nothing.
+-- `judge_pair_on` meets its contract.
 use mathlib.Core.Path.{_≡_, sym, _∙_, ap}
 use borrow.Author.Needs.{needs}
 use Rattle.sphere.specs.Point.{limitOf}

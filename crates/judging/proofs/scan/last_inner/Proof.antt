@@ -1,4 +1,4 @@
--- `last_inner` meets its contract. Assumes nothing.
+-- `last_inner` meets its contract.
 use borrow.Author.Needs.{needs}
 use borrow.Author.Tests.{lt-ltb, le-ltb}
 use Rattle.judging.specs.Scan.{lastInner}

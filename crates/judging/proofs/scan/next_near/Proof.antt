@@ -1,4 +1,4 @@
--- `next_near` meets its contract: no edge from i on, before the one at hand, is near. Assumes nothing.
+-- `next_near` meets its contract: no edge from i on, before the one at hand, is near.
 use mathlib.Core.Path.{_≡_, _∙_}
 use mathlib.Core.Bool.{Bool, not}
 use mathlib.Core.List.{List}

@@ -1,4 +1,4 @@
--- `next_run` meets its contract: no run from r on, before the one at hand, is sought. Assumes nothing.
+-- `next_run` meets its contract: no run from r on, before the one at hand, is sought.
 use mathlib.Core.Path.{_≡_}
 use mathlib.Core.Bool.{Bool, Bool·beq}
 use native.Mathlib.Omega.{arith}

@@ -1,4 +1,4 @@
--- `past_sure` meets its contract: no edge from i on, before the one at hand, is near. Assumes nothing.
+-- `past_sure` meets its contract: no edge from i on, before the one at hand, is near.
 use mathlib.Core.Path.{_≡_, refl, sym, ap, _∙_}
 use mathlib.Core.Bool.{Bool, true, false, cond}
 use Prim.Native.Nat.{_+_, _-_, _<_}

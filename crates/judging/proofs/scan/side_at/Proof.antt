@@ -1,4 +1,4 @@
--- `side_at` meets its contract. Assumes nothing.
+-- `side_at` meets its contract.
 use mathlib.Core.Path.{_∙_, sym, ap}
 use native.Mathlib.Omega.{arith}
 use mir.Syntax.{w64}

@@ -1,4 +1,4 @@
--- `skip` meets its contract, grid by grid. Assumes nothing.
+-- `skip` meets its contract, grid by grid.
 use mathlib.Core.Path.{subst}
 use borrow.Author.Needs.{needs}
 use Rattle.sphere.specs.Point.{limitOf}

@@ -1,4 +1,4 @@
--- `skip_fine` meets its contract: the vertices passed have the side's sign. Assumes nothing.
+-- `skip_fine` meets its contract: the vertices passed have the side's sign.
 use mathlib.Core.Path.{_≡_, sym, _∙_}
 use mathlib.Core.Bool.{true, false}
 use mir.Syntax.{w64}

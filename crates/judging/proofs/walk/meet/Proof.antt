@@ -1,4 +1,4 @@
--- `meet` meets its contract. Assumes nothing.
+-- `meet` meets its contract.
 use mathlib.Core.Path.{_≡_, sym, _∙_, ap}
 use borrow.Author.Needs.{needs}
 use lib.IntN.{ℤ}

@@ -1,4 +1,4 @@
--- `grid_of_second` meets its contract. Assumes nothing.
+-- `grid_of_second` meets its contract.
 use mathlib.Core.Path.{sym, _∙_}
 use borrow.Author.Needs.{needs}
 use Rattle.polygon.proofs.grids.grid_of_second.Statement.{statement}

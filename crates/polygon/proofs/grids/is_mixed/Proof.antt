@@ -1,4 +1,4 @@
--- `is_mixed` meets its contract. Assumes nothing.
+-- `is_mixed` meets its contract.
 use mathlib.Core.Path.{_≡_, sym, ap, _∙_}
 use mathlib.Core.Bool.{not, or-false}
 use borrow.Author.Needs.{needs}

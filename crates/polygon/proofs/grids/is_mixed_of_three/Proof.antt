@@ -1,4 +1,4 @@
--- `is_mixed_of_three` meets its contract. Assumes nothing.
+-- `is_mixed_of_three` meets its contract.
 use mathlib.Core.Path.{sym, _∙_}
 use borrow.Author.Needs.{needs}
 use Rattle.polygon.proofs.grids.is_mixed_of_three.Statement.{statement}

@@ -1,4 +1,4 @@
--- `choose::candidate_at` meets its contract. Assumes nothing.
+-- `choose::candidate_at` meets its contract.
 use mathlib.Core.Path.{sym, _∙_}
 use borrow.Author.Needs.{needs}
 use Rattle.sheet.proofs.Laws.Candidates.{candidate-point}

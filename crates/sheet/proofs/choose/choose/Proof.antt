@@ -1,5 +1,4 @@
--- `choose::choose` meets its contract: 10 first, then the sheet without its second point, and then the search. Assumes
--- nothing.
+-- `choose::choose` meets its contract: 10 first, then the sheet without its second point, and then the search.
 use mathlib.Core.Path.{_≡_, sym, _∙_}
 use mathlib.Core.List.{List}
 use Prim.Native.Nat.{_*_, _≤_}

@@ -1,4 +1,4 @@
--- `choose::earliest` meets its contract: no candidate before i passed. Assumes nothing.
+-- `choose::earliest` meets its contract: no candidate before i passed.
 use mathlib.Core.Path.{_≡_, sym}
 use mathlib.Core.Bool.{Bool}
 use mathlib.Core.List.{List}

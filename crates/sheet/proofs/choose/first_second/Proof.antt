@@ -1,4 +1,4 @@
--- `choose::first_second` meets its contract. Assumes nothing.
+-- `choose::first_second` meets its contract.
 use borrow.Author.Needs.{needs}
 use Rattle.sphere.specs.Point.{limitOf}
 use Rattle.polygon.specs.Accepted.{Accepted}

@@ -1,5 +1,4 @@
 -- `feed::feed` meets its contract: 26 and 27 first, then the sheet's checks, and then each query's result.
--- Assumes nothing.
 use mathlib.Core.Path.{_≡_, sym, _∙_}
 use mathlib.Core.List.{List}
 use Prim.Native.Nat.{_*_, _≤_}

@@ -1,4 +1,4 @@
--- `feed::feed_answer` meets its contract. Assumes nothing.
+-- `feed::feed_answer` meets its contract.
 use mathlib.Core.Path.{sym, _∙_}
 use borrow.Author.Needs.{needs}
 use Rattle.sheet.specs.Judge.{sheetFeedOf}

@@ -1,4 +1,4 @@
--- `feed::feed_check` meets its contract: 26 and 27 come first. Assumes nothing.
+-- `feed::feed_check` meets its contract: 26 and 27 come first.
 use mathlib.Core.Path.{sym, _∙_}
 use borrow.Author.Needs.{needs}
 use Rattle.sheet.proofs.Laws.Feeds.{feed-by-size, feed-by-sheet}

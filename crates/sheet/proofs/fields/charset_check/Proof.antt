@@ -1,4 +1,4 @@
--- `fields::charset_check` meets its contract. Assumes nothing.
+-- `fields::charset_check` meets its contract.
 use mathlib.Core.Path.{_≡_, sym, _∙_}
 use native.Mathlib.Omega.{arith}
 use borrow.Author.Tests.{not-true, not-false}

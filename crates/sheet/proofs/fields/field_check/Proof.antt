@@ -1,4 +1,4 @@
--- `fields::field_check` meets its contract. Assumes nothing.
+-- `fields::field_check` meets its contract.
 use mathlib.Core.Path.{_≡_, sym, _∙_}
 use Prim.Native.Nat.{_+_}
 use native.Mathlib.Omega.{arith}

@@ -1,4 +1,4 @@
--- `fields::fields_check` meets its contract. Assumes nothing.
+-- `fields::fields_check` meets its contract.
 use mathlib.Core.Path.{_≡_, sym, _∙_}
 use native.Mathlib.Omega.{arith}
 use borrow.Author.Tests.{lt-ltb, le-ltb}

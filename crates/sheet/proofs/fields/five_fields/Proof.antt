@@ -1,4 +1,4 @@
--- `fields::five_fields` meets its contract. Assumes nothing.
+-- `fields::five_fields` meets its contract.
 use mathlib.Core.List.{List}
 use mathlib.Core.Path.{_≡_, sym, ap, _∙_}
 use Prim.Native.Nat.{ℕ, _+_}

@@ -1,4 +1,4 @@
--- `fields::grid` meets its contract. Assumes nothing.
+-- `fields::grid` meets its contract.
 use mathlib.Core.Path.{ap, _∙_}
 use borrow.Author.Needs.{needs}
 use Rattle.sheet.specs.Fields.{gridAt}

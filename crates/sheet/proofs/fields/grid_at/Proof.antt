@@ -1,4 +1,4 @@
--- `fields::grid_at` meets its contract: a byte past the end reads as 0. Assumes nothing.
+-- `fields::grid_at` meets its contract: a byte past the end reads as 0.
 use borrow.Author.Needs.{needs}
 use borrow.Author.Tests.{eq-eqb, ne-eqb}
 use lib.ListN.{List·getD-eq-default}

@@ -1,4 +1,4 @@
--- `fields::has_second` meets its contract. Assumes nothing.
+-- `fields::has_second` meets its contract.
 use mathlib.Core.Path.{sym}
 use native.Mathlib.Omega.{arith}
 use borrow.Author.Needs.{needs}

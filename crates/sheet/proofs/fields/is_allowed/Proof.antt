@@ -1,4 +1,4 @@
--- `fields::is_allowed` meets its contract. Assumes nothing.
+-- `fields::is_allowed` meets its contract.
 use borrow.Author.Tests.{le-leb, lt-leb}
 use borrow.Author.Needs.{needs}
 use Rattle.sheet.specs.Fields.{isAllowed}

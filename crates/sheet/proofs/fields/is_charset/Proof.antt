@@ -1,4 +1,4 @@
--- `fields::is_charset` meets its contract. Assumes nothing.
+-- `fields::is_charset` meets its contract.
 use borrow.Author.Tests.{le-leb, lt-leb}
 use Rattle.sheet.specs.Fields.{isCharset}
 use Rattle.sheet.proofs.fields.is_charset.Statement.{statement}

@@ -1,4 +1,4 @@
--- `fields::known_start` meets its contract. Assumes nothing.
+-- `fields::known_start` meets its contract.
 use native.Mathlib.Omega.{arith}
 use borrow.Author.Needs.{needs}
 use Rattle.sheet.specs.Fields.{fieldEnd}

@@ -1,4 +1,4 @@
--- `fields::second_field` meets its contract. Assumes nothing.
+-- `fields::second_field` meets its contract.
 use mathlib.Core.Path.{sym, _∙_}
 use borrow.Author.Needs.{needs}
 use Rattle.sheet.specs.Fields.{secondField}

@@ -1,4 +1,4 @@
--- `fields::second_start` meets its contract. Assumes nothing.
+-- `fields::second_start` meets its contract.
 use native.Mathlib.Omega.{arith}
 use borrow.Author.Needs.{needs}
 use Rattle.sheet.proofs.Laws.Fields.{passed-spans}

@@ -1,4 +1,4 @@
--- `fields::sheet_end` meets its contract. Assumes nothing.
+-- `fields::sheet_end` meets its contract.
 use mathlib.Core.Path.{sym, _∙_}
 use native.Mathlib.Omega.{arith}
 use borrow.Author.Needs.{needs}

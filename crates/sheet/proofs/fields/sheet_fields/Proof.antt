@@ -1,4 +1,4 @@
--- `fields::sheet_fields` meets its contract. Assumes nothing.
+-- `fields::sheet_fields` meets its contract.
 use mathlib.Core.Path.{sym, _∙_}
 use borrow.Author.Needs.{needs}
 use Rattle.sheet.specs.Fields.{sheetFields}

@@ -1,4 +1,4 @@
--- `fields::vertices_start` meets its contract. Assumes nothing.
+-- `fields::vertices_start` meets its contract.
 use native.Mathlib.Omega.{arith}
 use Rattle.sheet.proofs.Laws.Fields.{passed-spans}
 use Rattle.sheet.proofs.fields.vertices_start.Statement.{statement}

@@ -1,4 +1,4 @@
--- `judge::judge` meets its contract. Assumes nothing.
+-- `judge::judge` meets its contract.
 use mathlib.Core.Path.{ap}
 use borrow.Author.Needs.{needs}
 use Rattle.sheet.specs.Judge.{sheetJudgementOf}

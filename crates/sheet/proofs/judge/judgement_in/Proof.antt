@@ -1,5 +1,5 @@
 -- `judge::judgement_in` meets its contract: the polygon that the checks decoded is the sheet's, and its points are
--- accepted. Assumes nothing.
+-- accepted.
 use mathlib.Core.Path.{_≡_, sym, _∙_}
 use Prim.Native.Nat.{_*_, _≤_}
 use borrow.Author.Needs.{needs}

@@ -1,4 +1,4 @@
--- `open::carried_check` meets its contract. Assumes nothing.
+-- `open::carried_check` meets its contract.
 use mathlib.Core.Path.{sym, _∙_}
 use Rattle.sphere.specs.Point.{limitOf}
 use Rattle.polygon.specs.Checks.{acceptCheck}

@@ -1,4 +1,4 @@
--- `open::decode_vertices` meets its contract. Assumes nothing.
+-- `open::decode_vertices` meets its contract.
 use native.Mathlib.Omega.{arith}
 use borrow.Author.Needs.{needs}
 use Rattle.sheet.proofs.Laws.Fields.{passed-spans}

@@ -1,4 +1,4 @@
--- `open::known_point` meets its contract. Assumes nothing.
+-- `open::known_point` meets its contract.
 use mathlib.Core.Path.{ap, _∙_}
 use Prim.Native.Nat.{ℕ, _+_}
 use native.Mathlib.Omega.{arith}

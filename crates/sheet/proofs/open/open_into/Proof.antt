@@ -1,4 +1,4 @@
--- `open::open_into` meets its contract. Assumes nothing.
+-- `open::open_into` meets its contract.
 use mathlib.Core.Path.{_≡_, sym, _∙_}
 use Prim.Native.Nat.{_*_, _≤_}
 use borrow.Author.Needs.{needs}

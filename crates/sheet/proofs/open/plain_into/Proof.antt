@@ -1,4 +1,4 @@
--- `open::plain_into` meets its contract. Assumes nothing.
+-- `open::plain_into` meets its contract.
 use mathlib.Core.Path.{_≡_, sym, ap, ap₂, _∙_}
 use mathlib.Core.List.{List, _++_}
 use Prim.Native.Nat.{ℕ, _*_, _≤_}

@@ -1,4 +1,4 @@
--- `open::second_point` meets its contract. Assumes nothing.
+-- `open::second_point` meets its contract.
 use mathlib.Core.Path.{ap, sym, _∙_}
 use Prim.Native.Nat.{ℕ, _+_}
 use native.Mathlib.Omega.{arith}

@@ -1,4 +1,4 @@
--- `open::vertex_count` meets its contract. Assumes nothing.
+-- `open::vertex_count` meets its contract.
 use native.Mathlib.Omega.{arith}
 use borrow.Author.Needs.{needs}
 use Rattle.sheet.proofs.Laws.Fields.{passed-spans}

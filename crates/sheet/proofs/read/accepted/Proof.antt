@@ -1,4 +1,4 @@
--- `read::accepted` meets its contract. Assumes nothing.
+-- `read::accepted` meets its contract.
 use native.Mathlib.Omega.{arith}
 use borrow.Author.Needs.{needs}
 use Rattle.sheet.proofs.Laws.Fields.{passed-spans, five-passed}

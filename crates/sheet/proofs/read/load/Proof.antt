@@ -1,4 +1,4 @@
--- `read::load` meets its contract: the vertices are decoded only once every check has passed. Assumes nothing.
+-- `read::load` meets its contract: the vertices are decoded only once every check has passed.
 use mathlib.Core.Path.{_≡_, sym, ap, _∙_}
 use mathlib.Core.List.{_++_}
 use Prim.Native.Nat.{ℕ, _*_}

@@ -1,4 +1,4 @@
--- `read::read` meets its contract: by the outcome of the checks. Assumes nothing.
+-- `read::read` meets its contract: by the outcome of the checks.
 use mathlib.Core.Path.{_≡_, sym, _∙_}
 use borrow.Author.Needs.{needs}
 use Rattle.polygon.specs.declared.answer.Check.the-variants.{Passed}

@@ -1,4 +1,4 @@
--- `store::put_charset` meets its contract. Assumes nothing.
+-- `store::put_charset` meets its contract.
 use mathlib.Core.Path.{refl}
 use mathlib.Core.List.{[], _∷_}
 use native.Mathlib.Omega.{arith}

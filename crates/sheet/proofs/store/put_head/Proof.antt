@@ -1,4 +1,4 @@
--- `store::put_head` meets its contract. Assumes nothing.
+-- `store::put_head` meets its contract.
 use mathlib.Core.Path.{_∙_}
 use native.Mathlib.Numerals.{add-one}
 use native.Mathlib.Omega.{arith}

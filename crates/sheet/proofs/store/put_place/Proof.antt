@@ -1,4 +1,4 @@
--- `store::put_place` meets its contract. Assumes nothing.
+-- `store::put_place` meets its contract.
 use mathlib.Core.Path.{_∙_, sym}
 use Prim.Native.Nat.{_+_}
 use native.Mathlib.Omega.{arith}

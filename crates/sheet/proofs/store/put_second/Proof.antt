@@ -1,4 +1,4 @@
--- `store::put_second` meets its contract. Assumes nothing.
+-- `store::put_second` meets its contract.
 use mathlib.Core.Path.{_≡_, sym, _∙_}
 use mathlib.Core.Bool.{false}
 use borrow.Author.Tests.{not-true, not-false}

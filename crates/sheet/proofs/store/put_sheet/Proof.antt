@@ -1,4 +1,4 @@
--- `store::put_sheet` meets its contract. Assumes nothing.
+-- `store::put_sheet` meets its contract.
 use mathlib.Core.Path.{refl, _∙_}
 use borrow.Author.Needs.{needs}
 use Rattle.sheet.proofs.Laws.Stores.{sheet-stored}

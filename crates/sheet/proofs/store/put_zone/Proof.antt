@@ -1,4 +1,4 @@
--- `store::put_zone` meets its contract. Assumes nothing.
+-- `store::put_zone` meets its contract.
 use mathlib.Core.Path.{_∙_, sym}
 use native.Mathlib.Omega.{arith}
 use borrow.Author.Needs.{needs}

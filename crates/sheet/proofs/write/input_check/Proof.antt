@@ -1,4 +1,4 @@
--- `write::input_check` meets its contract. Assumes nothing.
+-- `write::input_check` meets its contract.
 use mathlib.Core.Path.{_≡_, sym, ap, _∙_}
 use mathlib.Core.Bool.{true}
 use mathlib.Core.List.{[], _∷_}

@@ -1,4 +1,4 @@
--- `write::second_size` meets its contract. Assumes nothing.
+-- `write::second_size` meets its contract.
 use mathlib.Core.Path.{sym, _∙_}
 use native.Mathlib.Omega.{arith}
 use borrow.Author.Needs.{needs}

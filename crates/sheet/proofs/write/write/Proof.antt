@@ -1,4 +1,4 @@
--- `write::write` meets its contract. Assumes nothing.
+-- `write::write` meets its contract.
 use mathlib.Core.Path.{_≡_, sym, _∙_}
 use native.Mathlib.Omega.{arith}
 use borrow.Author.Needs.{needs}

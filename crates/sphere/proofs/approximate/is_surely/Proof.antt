@@ -1,4 +1,4 @@
--- `is_surely` meets its contract: the machine's constant is 2^29. Assumes nothing.
+-- `is_surely` meets its contract: the machine's constant is 2^29.
 use mathlib.Core.Path.{ap}
 use lib.Ieee.{lt, neg}
 use Rattle.sphere.specs.Approximate.{isSurely}

@@ -1,4 +1,4 @@
--- `crossing_from` meets its contract: where the edge stays on one side, s3 does not matter. Assumes nothing.
+-- `crossing_from` meets its contract: where the edge stays on one side, s3 does not matter.
 use mathlib.Core.Path.{_≡_, sym, _∙_, ap}
 use mathlib.Core.Bool.{false}
 use borrow.Author.Needs.{needs, sfits-of}

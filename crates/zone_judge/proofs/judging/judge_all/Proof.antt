@@ -1,5 +1,4 @@
--- `judging::judge_all` meets its contract: the buffers keep their lengths, and each turn answers a query. Assumes
--- nothing.
+-- `judging::judge_all` meets its contract: the buffers keep their lengths, and each turn answers a query.
 use mathlib.Core.Path.{_≡_}
 use Prim.Native.Nat.{ℕ, _-_}
 use borrow.Author.Needs.{needs}

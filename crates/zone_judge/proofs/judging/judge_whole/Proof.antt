@@ -1,4 +1,4 @@
--- `judging::judge_whole` meets its contract. Assumes nothing.
+-- `judging::judge_whole` meets its contract.
 use mathlib.Core.Path.{sym}
 use lib.Seq.{length-take-le}
 use borrow.Author.Needs.{needs}

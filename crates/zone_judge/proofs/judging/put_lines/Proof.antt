@@ -1,4 +1,4 @@
--- `judging::put_lines` meets its contract: a line for each result passed. Assumes nothing.
+-- `judging::put_lines` meets its contract: a line for each result passed.
 use mathlib.Core.Path.{_≡_}
 use Prim.Native.Nat.{_*_, _-_, _≤_}
 use borrow.Author.Needs.{needs}

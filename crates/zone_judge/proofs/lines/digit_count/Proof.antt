@@ -1,4 +1,4 @@
--- `lines::digit_count` meets its contract: what is left after k digits is below 10 ^ (20 - k). Assumes nothing.
+-- `lines::digit_count` meets its contract: what is left after k digits is below 10 ^ (20 - k).
 use mathlib.Core.Path.{_≡_, subst}
 use Prim.Native.Nat.{ℕ, zero, suc, _+_, _-_, _/_, _^_, _≤_, _<_}
 use native.Mathlib.Nat.{pow-suc}

@@ -1,4 +1,4 @@
--- `lines::print` meets its contract. Assumes nothing.
+-- `lines::print` meets its contract.
 use mathlib.Core.Path.{sym}
 use lib.Seq.{length-take-le}
 use borrow.Author.Needs.{needs}

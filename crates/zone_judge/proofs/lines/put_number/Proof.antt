@@ -1,4 +1,4 @@
--- `lines::put_number` meets its contract. Assumes nothing.
+-- `lines::put_number` meets its contract.
 use mathlib.Core.Path.{_≡_, _∙_}
 use Prim.Native.Nat.{_+_, _-_, _≤_}
 use native.Mathlib.Omega.{arith}
