@@ -1,4 +1,4 @@
-//! Request P5: the orientation multiplies nine times. Counted in the compiler's intermediate form, calls included.
+//! Request P5: the orientation, a cross and a dot product, multiplies nine times. Counted in the compiler's intermediate form, calls included.
 
 use crate::host::{command, output_of, repository};
 
@@ -21,5 +21,6 @@ fn multiplications(mir: &str, name: &str) -> usize {
 #[test]
 fn orientation_multiplies_nine_times() {
     let mir = output_of(command("rt", ["mir", "sphere"]).current_dir(repository(".")), &[]);
-    assert_eq!(multiplications(&mir, "sphere::orientation::orientation"), 9);
+    let product = |name| multiplications(&mir, name);
+    assert_eq!(product("sphere::orientation::cross") + product("sphere::orientation::dot"), 9);
 }
