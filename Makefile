@@ -15,6 +15,12 @@ DESTDIR ?=
 INSTALLED := $(DESTDIR)$(abspath $(PREFIX))
 CARGO := CARGO_TARGET_DIR=$(CURDIR)/target/cargo cargo
 
+# Shows rt's lines as they come, with 'k of n' (tests/progress); the prover's notes go to a log, named on failure.
+PROVE = log=$$(mktemp); $(1) 2>&1 | tee "$$log" | tests/progress $(2) >&2 \
+	|| { echo "The whole log: $$log" >&2; tail -n 40 "$$log" >&2; exit 1; }; rm "$$log"
+# The crates under the library, and under the program: all but two.
+CRATES := $(shell echo $$(($$(grep -c '^[a-z]' crates.txt) - 2)))
+
 run: bin
 	@cd crates/zone_judge/data && $(CURDIR)/target/bin/zone_judge < ../stdin
 
@@ -29,10 +35,10 @@ test:
 	tail -n 1 "$$log"; rm "$$log"
 
 lib:
-	@rt staticlib spargolutta >&2
+	@$(call PROVE,rt staticlib spargolutta,$(CRATES))
 
 bin:
-	@rt check zone_judge >&2
+	@$(call PROVE,rt check zone_judge,$(CRATES))
 
 install: lib
 	@install -d $(INSTALLED)/include $(INSTALLED)/lib/pkgconfig

@@ -130,7 +130,8 @@ int32_t spg_judge_sum(const uint8_t *sheet, size_t sheet_len, int32_t x, int32_t
  *
  * It is good for tuning: it says how much of an outline a query touches, and an outline whose neighbouring vertices lie
  * close together lets more runs be skipped. The rest of the answer does not depend on it: a skipped side is neither
- * crossed nor holds the query. A feed skips the same runs, but its results do not have this number.
+ * crossed nor holds the query. A feed's results do not have this number, and of an outline of up to 64 sides a feed
+ * skips none: so few are looked at faster than boxes.
  */
 uint32_t spg_judge_looked(const uint8_t *sheet, size_t sheet_len, int32_t x, int32_t y, int32_t z);
 

@@ -1,11 +1,17 @@
 //! Document 01's charts, with the answers typed from its tables: the library and the reference both
-//! have to give them. `boxes` has those of document 02's P2, `fine` those of P8 that need the fine grid.
+//! have to give them. `boxes` has those of document 02's P2, `fine` those of P8 that need the fine grid,
+//! `order` which of several refusals is given, `reading` the sheet byte by byte, `long` lists of about
+//! 4,096 vertices. What C cannot reach is run by the program `charts`.
 
+use crate::compare::Tally;
 use crate::sheet::{octant, Grid, Sheet, GRIDS, OCTANT};
 use crate::{library, reference, Answer, Point, Single};
 
 mod boxes;
 pub mod fine;
+mod long;
+mod order;
+mod reading;
 
 struct Chart {
     case: &'static str,
@@ -67,6 +73,12 @@ fn all_give_on(grid: Grid, charts: &[Chart]) {
     println!("charts, {grid:?}: {} compared", charts.len());
 }
 
+/// The same for any bytes, where the sum and the sides looked at are left to the reference.
+fn give(case: &str, sheet: &[u8], query: Point, (number, place, count): (u32, usize, u32)) {
+    let expected = Answer { number, place, count };
+    assert_eq!(Tally::default().compare(sheet, query).answer, expected, "{case}, {query:?}");
+}
+
 #[test]
 fn k1_to_k14() {
     let same = [[1, 0, 0], [2, 0, 0], [0, 0, 1]];
@@ -95,9 +107,15 @@ fn k1_to_k14() {
 fn run_only() {
     GRIDS.into_iter().for_each(give_limits);
     let past = [[1, 0, 2], [0, 1, 1], [-1, 0, 2]];
+    let [least, greatest] = [i32::MIN, i32::MAX].map(|k| [[k, 0, 0], [0, 1, 0], [0, 0, 1]]);
     all_give(&[
         chart("after 003", &past, [0, 1, 3], [0, 0, 1], (3, 2, 0)),
+        chart("vertex at the least i32", &least, [1, 1, 1], [1, 1, 1], (11, 0, 0)),
+        chart("vertex at the greatest i32", &greatest, [1, 1, 1], [1, 1, 1], (11, 0, 0)),
+        chart("known point at the least i32", &OCTANT, [1, 1, i32::MIN], [1, 1, 1], (15, 0, 0)),
+        chart("known point all zero", &OCTANT, [0, 0, 0], [1, 1, 1], (15, 0, 0)),
         chart("query at the least i32", &OCTANT, [1, 1, 1], [i32::MIN, 1, 1], (17, 0, 0)),
+        chart("query all zero", &OCTANT, [1, 1, 1], [0, 0, 0], (17, 0, 0)),
         // Two vertices are 24 bytes and 4,097 are 49,164: lengths that no field of vertices may have.
         chart("2 vertices", &OCTANT[..2], [1, 1, 1], [1, 1, 1], (22, 30, 0)),
         chart("3 vertices", &OCTANT, [1, 1, 1], [1, 1, 1], (1, 0, 0)),
@@ -110,20 +128,25 @@ fn run_only() {
 fn give_limits(grid: Grid) {
     let most = grid.limit();
     let large = [[most, 0, 0], [0, most, 0], [0, 0, most]];
-    let least = [[most, -most, 0], [0, most, -most], [most, most, most]];
+    let least = [[-most, 0, 0], [0, -most, 0], [0, 0, -most]];
+    let both = [[most, -most, 0], [0, most, -most], [most, most, most]];
     let beyond = [[1, 0, 0], [0, most + 1, 0], [0, 0, 1]];
     let under = [[1, 0, 0], [0, 1, 0], [0, 0, -most - 1]];
     let charts = [
         chart("vertices at the limit", &large, [1, 1, 1], [1, 1, 1], (1, 0, 0)),
-        chart("vertices at both limits", &least, [1, 0, 0], [0, 0, 0], (17, 0, 0)),
+        chart("vertices at both limits", &both, [1, 0, 0], [0, 0, 0], (17, 0, 0)),
+        chart("all at the lower limit", &least, [-most; 3], [-1, -1, -1], (1, 0, 0)),
         chart("known point at the limit", &OCTANT, [most; 3], [1, 1, 1], (1, 0, 0)),
         chart("query at the limit", &OCTANT, [1, 1, 1], [most; 3], (1, 0, 0)),
+        chart("query across at the limit", &OCTANT, [1, 1, 1], [most, most, -most], (2, 0, 1)).sum(-1),
         chart("query at the lower limit", &OCTANT, [1, 1, 1], [-most; 3], (18, 0, 0)),
         chart("all at the limit", &large, [most; 3], [most, most, -most], (2, 0, 1)).sum(-1),
         chart("vertex beyond", &beyond, [1, 1, 1], [1, 1, 1], (11, 1, 0)),
         chart("vertex beyond below", &under, [1, 1, 1], [1, 1, 1], (11, 2, 0)),
         chart("known point beyond", &OCTANT, [1, 1, most + 1], [1, 1, 1], (15, 0, 0)),
+        chart("known point beyond below", &OCTANT, [1, -most - 1, 1], [1, 1, 1], (15, 0, 0)),
         chart("query beyond", &OCTANT, [1, 1, 1], [1, most + 1, 1], (17, 0, 0)),
+        chart("query beyond below", &OCTANT, [1, 1, 1], [1, 1, -most - 1], (17, 0, 0)),
         chart("second point at the limit", &OCTANT, [1, 1, 1], [-1, -1, -1], (2, 0, 1))
             .second([most, 1, 1])
             .sum(-1),

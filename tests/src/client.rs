@@ -196,7 +196,7 @@ fn stack() {
             let case = [&sheet, &queries, &vec![0; queries.len()]].map(|bytes| row(bytes)).concat();
             let needed: usize = output_of(&mut client, &case).trim().parse().expect("bytes");
             println!("stack, {grid:?}: {needed} bytes, those of starting a thread among them");
-            assert!(needed < 65_536);
+            assert!(needed <= 60_000, "more than the room kept free below the promise");
         }
     }
 }

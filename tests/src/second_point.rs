@@ -64,14 +64,17 @@ fn chosen_of_the_octant() {
 fn chosen_beside_another() {
     let candidates = points_bytes(&[[1, 1, 0], [3, 2, 1]]);
     let with = |second| octant().with_second(second).bytes();
-    for second in [[1, 1, 2], [0, 0, 0], [1, 1, 1], [i32::MAX; 3]] {
+    for second in [[1, 1, 2], [0, 0, 0], [1, 1, 1], [1, 1, 0], [i32::MAX; 3]] {
         assert_eq!(choose(&with(second), &candidates), chosen(0, 1));
     }
     let sheet = octant_pair().bytes();
+    assert_eq!(choose(&sheet[..68], &candidates), chosen(20, 30));
     assert_eq!(choose(&sheet[..83], &candidates), chosen(20, 69));
     assert_eq!(choose(&[octant().bytes(), field(6, &[0; 11])].concat(), &candidates), chosen(22, 69));
     assert_eq!(choose(&[sheet.clone(), sheet[69..].to_vec()].concat(), &candidates), chosen(24, 84));
-    assert_eq!(choose(&Sheet { known: [1, 1, 0], ..octant_pair() }.bytes(), &candidates), chosen(16, 0));
+    for (known, side) in [([1, 1, 0], 0), ([0, 1, 1], 1)] {
+        assert_eq!(choose(&Sheet { known, ..octant_pair() }.bytes(), &candidates), chosen(16, side));
+    }
 }
 
 /// Tag 6, worked out by hand: good, cut, doubled, before the vertices, with another length; points that

@@ -1,250 +1,178 @@
-// Writing the octant's sheet, and what is not written. After each call the bytes that had to stay are compared: all
-// of them after a refusal, those after the sheet after a success. Here, in order: blank, is_blank_from,
-// is_rest_kept, both, write_front, try_write, try_octant, try_known, try_second, try_list, is_front, octant_bytes,
-// successes, rooms, heads, lists, known_points, second_points, run.
-ghost use mathlib.Core.Path.{_≡_};
+// Writing the octant's sheet, and what is not written. A refusal is met while those that come after it hold too: one
+// fault after another is mended, and every byte of the buffer has to stay. Here, in order: is_kept, write_octant,
+// longest_name, past_fine, nowhere, head, heads, list, lists, run.
 ghost use Prim.Native.Nat.{_≤_};
 ghost use lib.ListN.{length};
-use crate::given;
+use crate::given::coarse;
+use crate::given::fine;
+use crate::given::inner;
+use crate::given::none;
+use crate::given::octant;
+use crate::given::on;
 use crate::given::point;
 use crate::lines;
-use crate::reading;
-use polygon::answer;
-use polygon::answer::Answer;
+use crate::reading::octant_on;
+use sheet::read;
 use sheet::write;
 use sphere::point::Grid;
-use sphere::point::Point;
 
-// One byte more than the longest sheet, and no byte that a sheet of ours has.
-pub(crate) fn blank() -> [u8; 49320]
-    ensures { λ r. ⌜ 49320 ≡ length r ⌝ }
+// Whether the octant's 69 bytes are the sheet's, and the three behind them stayed.
+fn is_kept(buffer: &[u8], sheet: &[u8]) -> bool
+    requires { ⌜ (72 ≤ length (now buffer)) × (69 ≤ length (now sheet)) ⌝ }
 {
-    [238; 49320]
-}
-
-// Whether the bytes from a place on are those of `blank`.
-fn is_blank_from(buffer: &[u8], from: usize) -> bool {
-    let mut i = from;
-    while i < buffer.len() {
-        if buffer[i] != 238 {
-            return false;
-        }
-        i += 1;
-    }
-    true
-}
-
-// Whether the bytes stayed that had to.
-pub(crate) fn is_rest_kept(written: Answer, buffer: &[u8]) -> bool {
-    if answer::number(written) == 0 {
-        return is_blank_from(buffer, answer::place(written));
-    }
-    is_blank_from(buffer, 0)
-}
-
-fn both(first: bool, second: bool) -> bool {
-    if first {
-        return second;
+    if check::same(&buffer[0..69], &sheet[0..69]) {
+        return check::same(&buffer[69..72], b"\xee\xee\xee");
     }
     false
 }
 
-// Writes into the first bytes of a buffer.
-pub(crate) fn write_front(
-    zone: u32,
-    charset: u32,
-    name: &[u8],
-    known: Point,
-    vertices: &[i32],
-    second: Point,
-    buffer: &mut [u8],
-    room: usize,
-) -> Answer
-    requires { ⌜ room ≤ length (now buffer) ⌝ }
-{
-    write::write(
-        zone,
-        charset,
-        name,
-        given::coarse(known),
-        Grid::Coarse,
-        vertices,
-        given::coarse(second),
-        &mut buffer[..room],
-    )
-}
-
-// One case. Whether the bytes stayed, here and in the cases before it.
-fn try_write(
-    kept: bool,
-    label: &[u8],
-    charset: u32,
-    name: &[u8],
-    known: Point,
-    vertices: &[i32],
-    second: Point,
-    room: usize,
-) -> bool
-    requires { ⌜ room ≤ 49320 ⌝ }
-{
-    let mut buffer = blank();
-    let written = write_front(7, charset, name, known, vertices, second, &mut buffer, room);
-    lines::print_answer(label, written);
-    both(kept, is_rest_kept(written, &buffer))
-}
-
-// The octant under another head, with another known point, and another list in its place.
-fn try_octant(kept: bool, label: &[u8], charset: u32, name: &[u8], room: usize) -> bool
-    requires { ⌜ room ≤ 49320 ⌝ }
-{
-    try_write(
-        kept,
-        label,
-        charset,
-        name,
-        given::inner(),
-        &given::octant(),
-        given::none(),
-        room,
-    )
-}
-
-fn try_known(kept: bool, label: &[u8], x: i64, y: i64, z: i64, room: usize) -> bool
-    requires { ⌜ room ≤ 49320 ⌝ }
-{
-    try_write(
-        kept,
-        label,
-        1,
-        b"A",
-        point(x, y, z),
-        &given::octant(),
-        given::none(),
-        room,
-    )
-}
-
-// The octant with a second point.
-fn try_second(kept: bool, label: &[u8], x: i64, y: i64, z: i64, room: usize) -> bool
-    requires { ⌜ room ≤ 49320 ⌝ }
-{
-    try_write(
-        kept,
-        label,
-        1,
-        b"A",
-        given::inner(),
-        &given::octant(),
-        point(x, y, z),
-        room,
-    )
-}
-
-fn try_list(kept: bool, label: &[u8], vertices: &[i32]) -> bool {
-    try_write(
-        kept,
-        label,
-        1,
-        b"A",
-        given::inner(),
-        vertices,
-        given::none(),
-        69,
-    )
-}
-
-// The bytes are the first n of the others.
-pub(crate) fn is_front(bytes: &[u8], others: &[u8], n: usize) -> bool
-    requires { ⌜ n ≤ length (now others) ⌝ }
-{
-    check::same(bytes, &others[..n])
-}
-
-fn octant_bytes() {
-    let mut buffer = [0u8; 69];
-    write::write(
+// None has no grid: one that says another is no mixture.
+fn write_octant(label: &[u8], grid: Grid) {
+    let known = on(grid, inner());
+    let mut buffer = [238u8; 72];
+    let written = write::write(
         7,
         1,
         b"A",
-        given::coarse(given::inner()),
-        Grid::Coarse,
-        &given::octant(),
-        given::coarse(given::none()),
+        known,
+        grid,
+        &octant(),
+        coarse(none()),
         &mut buffer,
     );
-    lines::print_same(
-        b"write_69_bytes",
-        is_front(&buffer, &reading::octant_sheet(), 69),
-    )
+    lines::print_kept(label, written, is_kept(&buffer, &octant_on(grid)))
 }
 
-// 32 bytes, the name and 12 for each vertex.
-fn successes() {
-    let first = try_octant(true, b"write_69", 1, b"A", 49320);
-    let second = try_octant(first, b"write_188", 2, &[65; 120], 188);
-    lines::print_same(b"write_successes_kept", second)
-}
-
-fn rooms() {
-    let first = try_octant(true, b"write_room_0", 1, b"A", 0);
-    let second = try_octant(first, b"write_room_68", 1, b"A", 68);
-    lines::print_same(b"write_rooms_kept", second)
-}
-
-fn heads() {
-    let a = try_octant(true, b"write_charset_0", 0, b"A", 69);
-    let b = try_octant(a, b"write_charset_4", 4, b"A", 69);
-    let c = try_octant(b, b"write_name_0", 1, b"", 69);
-    let d = try_octant(c, b"write_name_121", 1, &[65; 121], 300);
-    let e = try_octant(d, b"write_23_22", 4, b"", 69);
-    let f = try_write(
-        e,
-        b"write_22_10",
-        1,
-        b"",
-        given::inner(),
-        &[1, 0, 0],
-        given::none(),
-        69,
+// 32 bytes, the name, and 12 for each vertex, whose numbers are at the fine grid's limit.
+fn longest_name() {
+    let largest = [67108864, 0, 0, 0, 67108864, 0, 0, 0, 67108864];
+    let known = fine(inner());
+    let mut buffer = [238u8; 188];
+    write::write(
+        7,
+        2,
+        &[65; 120],
+        known,
+        Grid::Fine,
+        &largest,
+        fine(none()),
+        &mut buffer,
     );
-    lines::print_same(b"write_heads_kept", f)
+    lines::print_sheet(b"write_188", read::read(&buffer))
 }
 
+// Vertex 2 is past the fine grid's limit.
+fn past_fine() {
+    let past = [1, 0, 0, 0, 1, 0, 0, 0, 67108865];
+    let known = fine(inner());
+    let mut buffer = [238u8; 69];
+    let written = write::write(
+        7,
+        1,
+        b"A",
+        known,
+        Grid::Fine,
+        &past,
+        fine(none()),
+        &mut buffer,
+    );
+    lines::print_kept(b"write_fine_11", written, check::same(&buffer, &[238; 69]))
+}
+
+// No room at all.
+fn nowhere() {
+    let known = coarse(inner());
+    let mut buffer = [238u8; 0];
+    let written = write::write(
+        7,
+        1,
+        b"A",
+        known,
+        Grid::Coarse,
+        &octant(),
+        coarse(none()),
+        &mut buffer,
+    );
+    lines::print_answer(b"write_room_0", written)
+}
+
+// The first n numbers of a list past the limit, and points that fail.
+fn head(charset: u32, name: &[u8], n: usize, known: Grid, second: Grid)
+    requires { ⌜ n ≤ 9 ⌝ }
+{
+    let beyond = [1048577, 0, 0, 0, 1, 0, 0, 0, 1];
+    let first = on(known, none());
+    let other = on(second, inner());
+    let mut buffer = [238u8; 84];
+    let written = write::write(
+        7,
+        charset,
+        name,
+        first,
+        Grid::Coarse,
+        &beyond[0..n],
+        other,
+        &mut buffer,
+    );
+    lines::print_kept(b"write_head", written, check::same(&buffer, &[238; 84]))
+}
+
+// 23, 23, 22, 22, 10; 28 for either point; 11.
+fn heads() {
+    head(0, b"", 6, Grid::Fine, Grid::Fine);
+    head(4, b"", 6, Grid::Fine, Grid::Fine);
+    head(1, b"", 6, Grid::Fine, Grid::Fine);
+    head(2, &[65; 121], 6, Grid::Fine, Grid::Fine);
+    head(3, b"A", 6, Grid::Fine, Grid::Fine);
+    head(3, b"A", 9, Grid::Fine, Grid::Coarse);
+    head(3, b"A", 9, Grid::Coarse, Grid::Fine);
+    head(3, b"A", 9, Grid::Coarse, Grid::Coarse);
+}
+
+// From (x, 2, z) and (1, 2, w). The sheet has 32 + 1 + 72 + 15 bytes.
+fn list(vertices: &[i32; 18], x: i64, z: i64, w: i64) {
+    let known = coarse(point(x, 2, z));
+    let second = coarse(point(1, 2, w));
+    let mut buffer = [238u8; 119];
+    let written = write::write(
+        7,
+        1,
+        b"A",
+        known,
+        Grid::Coarse,
+        vertices,
+        second,
+        &mut buffer,
+    );
+    lines::print_kept(b"write_list", written, check::same(&buffer, &[238; 119]))
+}
+
+// 11 for vertex 1, 12 for vertex 2, 13 for edge 3, which joins (0, 0, 1) to (0, 0, 2), 14 for edge 5, which joins
+// (-1, 0, 0) to (1, 0, 0). The planes of the edges are then z = 0, z = 0, y = 0, x = 0, 2x - 2y + z = 0 and z = 0: 15
+// for a known point past the limit, 16 with edge 0 for (1, 2, 0), 19 for (1, 2, 3) twice. (1, 2, 4) is on its side of
+// each plane, so it passes: 25.
 fn lists() {
-    let a = try_list(true, b"write_10", &[1, 0, 0, 0, 1, 0]);
-    let beyond = [1, 0, 0, 0, 1048577, 0, 0, 0, 1];
-    let b = try_list(a, b"write_11", &beyond);
-    let zero = [0, 0, 0, 0, 1, 0, 0, 0, 1];
-    let c = try_list(b, b"write_12", &zero);
-    let same = [1, 0, 0, 2, 0, 0, 0, 0, 1];
-    let d = try_list(c, b"write_13", &same);
-    let opposite = [1, 0, 0, 0, 1, 0, -1, 0, 0];
-    let e = try_list(d, b"write_14", &opposite);
-    lines::print_same(b"write_lists_kept", e)
-}
-
-fn known_points() {
-    let first = try_known(true, b"write_15", 0, 0, 0, 69);
-    let second = try_known(first, b"write_16", 1, -1, 0, 69);
-    let third = try_known(second, b"write_16_25", 1, -1, 0, 0);
-    lines::print_same(b"write_known_points_kept", third)
-}
-
-// Of two refusals 19 comes before 25, whose place counts the field of the second point.
-fn second_points() {
-    let a = try_second(true, b"write_84", 1, 1, 2, 49320);
-    let b = try_second(a, b"write_room_83", 1, 1, 2, 83);
-    let c = try_second(b, b"write_19", 1, 1, -1, 84);
-    let d = try_second(c, b"write_19_25", 1, 1, -1, 0);
-    lines::print_same(b"write_second_points_kept", d)
+    let mut vertices = [1, 0, 0, 0, 1048577, 0, 0, 0, 0, 0, 0, 1, 0, 0, 2, -1, 0, 0];
+    list(&vertices, 1048577, 0, 3);
+    vertices[4] = 1;
+    list(&vertices, 1048577, 0, 3);
+    vertices[6] = -1;
+    list(&vertices, 1048577, 0, 3);
+    vertices[13] = 1;
+    list(&vertices, 1048577, 0, 3);
+    vertices[16] = -1;
+    list(&vertices, 1048577, 0, 3);
+    list(&vertices, 1, 0, 3);
+    list(&vertices, 1, 3, 3);
+    list(&vertices, 1, 3, 4);
 }
 
 pub(crate) fn run() {
-    octant_bytes();
-    successes();
-    rooms();
+    write_octant(b"write_69", Grid::Coarse);
+    write_octant(b"write_fine_69", Grid::Fine);
+    longest_name();
+    past_fine();
+    nowhere();
     heads();
     lists();
-    known_points();
-    second_points();
 }

@@ -1,14 +1,17 @@
-// The calls over lists, which take any records of points. Here, in order: judge, looked, judge_pair, choose_second.
-// Each record says its grid, and mixed grids are refused (document 02, P8): a list has its grid beside it.
+// The calls over lists, which take any records of points. Here, in order: judge, looked (one known point), judge_pair,
+// looked_pair (two), choose_second. Each record says its grid, and mixed grids are refused (document 02, P8): a list
+// has its grid beside it.
 ghost use mathlib.Core.Path.{_≡_};
 ghost use Rattle.polygon.specs.Grids.{gridAnswerOf, gridPairOf, gridChooseOf};
-ghost use Rattle.judging.specs.Walk.{gridLookedOf};
-use crate::judge::judge_on;
-use crate::judge::looked_on;
-use crate::pair::choose_on;
-use crate::pair::judge_pair_on;
-use polygon::answer::Answer;
-use polygon::answer::Check;
+ghost use Rattle.judging.specs.Judge.{gridLookedOf, gridLookedPairOf};
+use crate::accept::accept_boxed;
+use crate::accept::no_second;
+use crate::judge::judge_boxed;
+use crate::judge::looked_boxed;
+use crate::second::earliest;
+use crate::second::pair_boxed;
+use answer::Answer;
+use answer::Check;
 use polygon::grids::grid_check;
 use polygon::grids::is_mixed;
 use polygon::grids::is_mixed_of_three;
@@ -25,7 +28,13 @@ pub fn judge(grid: Grid, vertices: &[i32], known: GridPoint, query: GridPoint) -
         Check::Passed => {}
         Check::Failed(number, place) => return Answer::Refused(number, place),
     }
-    judge_on(grid, vertices, known.point, query.point)
+    let mut boxes = [0i32; 768];
+    match accept_boxed(grid, vertices, &mut boxes, known.point) {
+        Check::Passed => {}
+        Check::Failed(number, place) => return Answer::Refused(number, place),
+    }
+    let none = no_second();
+    judge_boxed(grid, vertices, &boxes, known.point, none, query.point, true)
 }
 
 // How many edges `judge` looks at (document 02, P2).
@@ -38,7 +47,13 @@ pub fn looked(grid: Grid, vertices: &[i32], known: GridPoint, query: GridPoint) 
         Check::Passed => {}
         Check::Failed(_, _) => return 0,
     }
-    looked_on(grid, vertices, known.point, query.point)
+    let mut boxes = [0i32; 768];
+    match accept_boxed(grid, vertices, &mut boxes, known.point) {
+        Check::Passed => {}
+        Check::Failed(_, _) => return 0,
+    }
+    let none = no_second();
+    looked_boxed(grid, vertices, &boxes, known.point, none, query.point)
 }
 
 // One query, from two known points (document 02, P4).
@@ -58,7 +73,52 @@ pub fn judge_pair(
         Check::Passed => {}
         Check::Failed(number, place) => return Answer::Refused(number, place),
     }
-    judge_pair_on(grid, vertices, known.point, second.point, query.point)
+    let mut boxes = [0i32; 768];
+    match pair_boxed(grid, vertices, &mut boxes, known.point, second.point) {
+        Check::Passed => {}
+        Check::Failed(number, place) => return Answer::Refused(number, place),
+    }
+    judge_boxed(
+        grid,
+        vertices,
+        &boxes,
+        known.point,
+        second.point,
+        query.point,
+        true,
+    )
+}
+
+// How many edges `judge_pair` looks at.
+pub fn looked_pair(
+    grid: Grid,
+    vertices: &[i32],
+    known: GridPoint,
+    second: GridPoint,
+    query: GridPoint,
+) -> u32
+    ensures { λ r. ⌜ r ≡ gridLookedPairOf grid (now (vertices .entry)) known second query ⌝ }
+{
+    let g = known.grid;
+    let h = second.grid;
+    let k = query.grid;
+    match grid_check(vertices, is_mixed_of_three(grid, g, h, k)) {
+        Check::Passed => {}
+        Check::Failed(_, _) => return 0,
+    }
+    let mut boxes = [0i32; 768];
+    match pair_boxed(grid, vertices, &mut boxes, known.point, second.point) {
+        Check::Passed => {}
+        Check::Failed(_, _) => return 0,
+    }
+    looked_boxed(
+        grid,
+        vertices,
+        &boxes,
+        known.point,
+        second.point,
+        query.point,
+    )
 }
 
 // The earliest candidate that may be a second known point, by its number. Candidates have one grid.
@@ -80,5 +140,10 @@ pub fn choose_second(
         Check::Passed => {}
         Check::Failed(number, place) => return Answer::Refused(number, place),
     }
-    choose_on(grid, vertices, known.point, candidates)
+    let mut boxes = [0i32; 768];
+    match accept_boxed(grid, vertices, &mut boxes, known.point) {
+        Check::Passed => {}
+        Check::Failed(number, place) => return Answer::Refused(number, place),
+    }
+    earliest(grid, vertices, &boxes, known.point, candidates)
 }

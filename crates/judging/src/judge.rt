@@ -1,29 +1,28 @@
-// Judging a query on one grid. Here, in order: by_parity, verdict_on; Judgement, refused, judge_boxed, judge_accepted,
-// judge_query, judge_on, looked_on. Document 01, 'What comes back'; document 02, P2: each call builds its own boxes, a
-// feed once. What users call is in `calls`.
+// Judging a query on one grid, from the reference point or, where the query is antipodal to that, from a second one, if
+// there is one (document 02, P4). Here, in order: by_parity, verdict_on; judge_from; judge_boxed, looked_boxed.
+// Document 01, 'What comes back'. The polygon is accepted, with its boxes; what users call is in `calls`.
 ghost use mathlib.Core.Path.{_≡_};
-ghost use Rattle.sphere.specs.Point.{limitOf};
-ghost use Rattle.polygon.specs.declared.answer.Answer.the-variants.{Refused};
-ghost use Rattle.polygon.specs.declared.answer.Check.the-variants.{Passed};
-ghost use Rattle.polygon.specs.declared.answer.Found.the-variants.{Nothing};
-ghost use Rattle.polygon.specs.Checks.{acceptCheck};
+ghost use Rattle.sphere.specs.Point.{fine, limitOf, Within};
+ghost use Rattle.answer.specs.declared.Check.the-variants.{Passed};
+ghost use Rattle.answer.specs.declared.Found.the-variants.{Nothing};
+ghost use Rattle.polygon.specs.Pair.{judgeFrom, optionalCheck};
 ghost use Rattle.polygon.specs.Verdict.{verdictBy, answerOf};
-ghost use Rattle.judging.specs.Boxes.{Boxed};
-ghost use Rattle.judging.specs.Walk.{verdictOn, lookedOf, judgementOf};
-use crate::boxes;
-use crate::walk::Tally;
-use crate::walk::walk_runs;
-use polygon::answer::Answer;
-use polygon::answer::Check;
-use polygon::checks::accept_check;
+ghost use Rattle.search.specs.Boxes.{Boxed};
+ghost use Rattle.judging.specs.Judge.{verdictOn, lookedOf};
+use answer::Answer;
+use answer::Check;
 use polygon::checks::far_check;
 use polygon::checks::query_check;
-use sphere::plane::plane_through;
+use search::walk::Tally;
+use search::walk::looked_edges;
+use search::walk::tally_edges;
+use sphere::direction::antipodal;
 use sphere::point::Grid;
 use sphere::point::Point;
+use sphere::point::is_null;
 
 // An even number of crossings means inside.
-pub fn by_parity(crossed: u32, sum: i32) -> Answer
+fn by_parity(crossed: u32, sum: i32) -> Answer
     ensures { λ r. ⌜ r ≡ verdictBy Nothing crossed sum ⌝ }
 {
     if crossed % 2 == 0 {
@@ -33,7 +32,7 @@ pub fn by_parity(crossed: u32, sum: i32) -> Answer
 }
 
 // Boundary, or by parity.
-pub fn verdict_on(tally: Tally) -> Answer
+fn verdict_on(tally: Tally) -> Answer
     ensures { λ r. ⌜ r ≡ verdictOn tally ⌝ }
 {
     match tally {
@@ -42,89 +41,68 @@ pub fn verdict_on(tally: Tally) -> Answer
     }
 }
 
-// The answer, and the number of edges that were looked at for it.
-pub struct Judgement {
-    pub answer: Answer,
-    pub looked: u32,
-}
-
-pub fn refused(number: u32, place: usize) -> Judgement
-    ensures { λ r. ⌜ r ≡ record { answer = Refused number place; looked = 0 } ⌝ }
+// The point that judges.
+fn judge_from(known: Point, second: Point, query: Point) -> Point
+    requires { ⌜ Within fine known × Within fine query ⌝ }
+    ensures { λ r. ⌜ r ≡ judgeFrom known second query ⌝ }
 {
-    Judgement {
-        answer: Answer::Refused(number, place),
-        looked: 0,
+    if is_null(second) {
+        return known;
     }
+    if antipodal(known, query) {
+        return second;
+    }
+    known
 }
 
-// One query to an accepted polygon with its boxes: a caller with many queries builds them once.
-pub(crate) fn judge_boxed(
+// One query to an accepted polygon with its boxes: a caller with many queries builds them once, and may tell the search
+// not to ask them.
+pub fn judge_boxed(
     grid: Grid,
     vertices: &[i32],
     boxes: &[i32],
     known: Point,
+    second: Point,
     query: Point,
-) -> Judgement
-    requires { ⌜ (acceptCheck (limitOf grid) (now vertices) known ≡ Passed) × Boxed (now vertices) (now boxes) ⌝ }
-    ensures { λ r. ⌜ r ≡ judgementOf (limitOf grid) (now (vertices .entry)) known query ⌝ }
+    by_boxes: bool,
+) -> Answer
+    requires { ⌜ (optionalCheck (limitOf grid) (now vertices) known second ≡ Passed)
+        × Boxed (now vertices) (now boxes) ⌝ }
+    ensures { λ r. ⌜ r ≡ answerOf (limitOf grid) (now (vertices .entry)) (judgeFrom known second query) query ⌝ }
 {
     match query_check(grid, query) {
         Check::Passed => {}
-        Check::Failed(number, place) => return refused(number, place),
+        Check::Failed(number, place) => return Answer::Refused(number, place),
     }
-    match far_check(known, query) {
-        Check::Passed => {}
-        Check::Failed(number, place) => return refused(number, place),
-    }
-    let w = walk_runs(
-        vertices,
-        boxes,
-        known,
-        query,
-        plane_through(grid, known, query),
-    );
-    let tally = w.tally;
-    Judgement {
-        answer: verdict_on(tally),
-        looked: w.looked,
-    }
-}
-
-// One query to an accepted polygon.
-fn judge_accepted(grid: Grid, vertices: &[i32], known: Point, query: Point) -> Judgement
-    requires { ⌜ acceptCheck (limitOf grid) (now vertices) known ≡ Passed ⌝ }
-    ensures { λ r. ⌜ r ≡ judgementOf (limitOf grid) (now (vertices .entry)) known query ⌝ }
-{
-    let mut boxes = [0i32; 768];
-    boxes::fill(vertices, &mut boxes);
-    judge_boxed(grid, vertices, &boxes, known, query)
-}
-
-fn judge_query(grid: Grid, vertices: &[i32], known: Point, query: Point) -> Answer
-    requires { ⌜ acceptCheck (limitOf grid) (now vertices) known ≡ Passed ⌝ }
-    ensures { λ r. ⌜ r ≡ answerOf (limitOf grid) (now (vertices .entry)) known query ⌝ }
-{
-    judge_accepted(grid, vertices, known, query).answer
-}
-
-// The judging call on one grid: any numbers.
-pub(crate) fn judge_on(grid: Grid, vertices: &[i32], known: Point, query: Point) -> Answer
-    ensures { λ r. ⌜ r ≡ answerOf (limitOf grid) (now (vertices .entry)) known query ⌝ }
-{
-    match accept_check(grid, vertices, known) {
+    let from = judge_from(known, second, query);
+    match far_check(from, query) {
         Check::Passed => {}
         Check::Failed(number, place) => return Answer::Refused(number, place),
     }
-    judge_query(grid, vertices, known, query)
+    verdict_on(tally_edges(grid, vertices, boxes, from, query, by_boxes))
 }
 
-// How many edges it looks at: any numbers.
-pub(crate) fn looked_on(grid: Grid, vertices: &[i32], known: Point, query: Point) -> u32
-    ensures { λ r. ⌜ r ≡ lookedOf (limitOf grid) (now (vertices .entry)) known query ⌝ }
+// How many edges it looks at (document 02, P2).
+pub fn looked_boxed(
+    grid: Grid,
+    vertices: &[i32],
+    boxes: &[i32],
+    known: Point,
+    second: Point,
+    query: Point,
+) -> u32
+    requires { ⌜ (optionalCheck (limitOf grid) (now vertices) known second ≡ Passed)
+        × Boxed (now vertices) (now boxes) ⌝ }
+    ensures { λ r. ⌜ r ≡ lookedOf (limitOf grid) (now (vertices .entry)) (judgeFrom known second query) query ⌝ }
 {
-    match accept_check(grid, vertices, known) {
+    match query_check(grid, query) {
         Check::Passed => {}
         Check::Failed(_, _) => return 0,
     }
-    judge_accepted(grid, vertices, known, query).looked
+    let from = judge_from(known, second, query);
+    match far_check(from, query) {
+        Check::Passed => {}
+        Check::Failed(_, _) => return 0,
+    }
+    looked_edges(grid, vertices, boxes, from, query)
 }

@@ -1,6 +1,6 @@
--- The proofs of specs/GridClaims. Proved, in order: answer-other, pair-other, choose-other (what follows 28 has another
--- number), mixed-exactly-holds; listed-answer, listed-pair, listed-choose (it begins with line 10 itself),
--- one-grid-holds; on-each-grid-holds.
+-- The proofs of specs/GridClaims. Proved, in order: whole-other, answer-other, pair-other, choose-other (what stands
+-- beside 28 has another number), mixed-exactly-holds; listed-answer, listed-pair, listed-choose (what follows 28 begins
+-- with line 10 itself), one-grid-holds; on-each-grid-holds.
 use mathlib.Core.Path.{_≡_, refl, sym}
 use mathlib.Core.Bool.{false, not}
 use mathlib.Core.List.{List, [], _∷_}
@@ -10,18 +10,18 @@ use lib.IntN.{ℤ}
 use Rattle.sphere.specs.declared.point.Point.{Point}
 use Rattle.sphere.specs.declared.point.Grid.{Grid}
 use Rattle.sphere.specs.declared.point.Grid.the-variants.{Coarse, Fine}
-use Rattle.sphere.specs.declared.point.GridPoint.{GridPoint}
 use Rattle.sphere.specs.Point.{limitOf}
-use Rattle.polygon.specs.declared.answer.Found.{Found}
-use Rattle.polygon.specs.declared.answer.Found.the-variants.{Nothing, At}
-use Rattle.polygon.specs.declared.answer.Answer.{Answer}
-use Rattle.polygon.specs.declared.answer.Answer.the-variants.{Refused}
-use Rattle.polygon.specs.declared.answer.Check.{Check}
-use Rattle.polygon.specs.declared.answer.Check.the-variants.{Passed, Failed}
-use Rattle.polygon.specs.Search.{firstFrom}
+use Rattle.answer.specs.declared.Found.{Found}
+use Rattle.answer.specs.declared.Found.the-variants.{Nothing, At}
+use Rattle.answer.specs.declared.Answer.{Answer}
+use Rattle.answer.specs.declared.Answer.the-variants.{Refused}
+use Rattle.answer.specs.declared.Check.{Check}
+use Rattle.answer.specs.declared.Check.the-variants.{Passed, Failed}
+use Rattle.answer.specs.Search.{firstFrom}
 use Rattle.polygon.specs.Vertices.{vertexCount, vertexAt}
-use Rattle.polygon.specs.Answer.{numberOf, answerAfter}
-use Rattle.polygon.specs.Checks.{_then_, failsIf, listCheck, polygonCheck, acceptCheck, judgeCheck}
+use Rattle.answer.specs.Answer.{numberOf, answerAfter}
+use Rattle.answer.specs.Chain.{_then_, failsIf}
+use Rattle.polygon.specs.Checks.{listCheck, polygonCheck, acceptCheck, judgeCheck}
 use Rattle.polygon.specs.Checks.{beyondCheck, nullCheck, sameCheck, antipodalCheck, referenceCheck, circleCheck}
 use Rattle.polygon.specs.Checks.{queryCheck, farCheck}
 use Rattle.polygon.specs.Verdict.{verdictOf, answerOf}
@@ -29,55 +29,50 @@ use Rattle.polygon.specs.Pair.{isSecond, secondCheck, pairCheck, judgeFr
 use Rattle.polygon.specs.Pair.{isWhole, chosen, earliestOf, chooseOf}
 use Rattle.polygon.specs.Grids.{isMixed, gridCheck, gridAnswerOf, gridPairOf, gridChooseOf}
 use Rattle.polygon.specs.GridClaims.{MixedExactly, OneGrid, OnEachGrid}
-use Rattle.polygon.proofs.Laws.Checks.{then-assoc}
-use Rattle.polygon.proofs.Laws.Numbers.{Numbered, then-numbered, fails-if-numbered, after-numbered}
+use Rattle.answer.proofs.Laws.Chain.{then-assoc}
+use Rattle.answer.proofs.Laws.Numbers.{Numbered, Other, _both_, if-numbered, after-numbered}
+use Rattle.polygon.proofs.Laws.Numbers.{pair-numbered}
 use Rattle.polygon.proofs.Laws.Numbers.{answer-numbered}
-use Rattle.polygon.proofs.Laws.Mixed.{Other, mixed-after, listed-other, accept-other}
-use Rattle.polygon.proofs.Demand2.{demand-2}
-use Rattle.polygon.proofs.Demand3.{demand-3}
-use Rattle.polygon.proofs.PairDemands.{demand-2-pair, demand-3-pair}
+use Rattle.polygon.proofs.Laws.Mixed.{mixed-after, list-other, accept-other}
+use Rattle.polygon.proofs.Demand2.{demand-2, demand-2-pair}
+use Rattle.polygon.proofs.Demand3.{demand-3, demand-3-pair}
 
 -- ---- 28
-module _ (limit : ℕ) (vs : List ℤ) where
-  answer-other : (X P : Point) → Other (numberOf (answerOf limit vs X P))
-  answer-other =
-      answer-numbered Other limit vs (λ n l m e. omega (arith, m, e))
-      (λ e. omega arith) (λ e. omega arith) (λ e. omega arith) (λ e. omega arith) (λ e. omega arith)
+whole-other : (cs : List ℤ) → Numbered (Other 28) (failsIf 10 (not (isWhole cs)))
+whole-other cs = if-numbered 10 (not (isWhole cs)) (λ e. omega arith)
 
-  pair-other : (X Y P : Point) → Other (numberOf (pairAnswerOf limit vs X Y P))
-  unfolding pairAnswerOf pairCheck secondCheck
+module _ (limit : ℕ) (vs : List ℤ) where
+  answer-other : (X P : Point) → Other 28 (numberOf (answerOf limit vs X P))
+  answer-other = answer-numbered (Other 28) limit vs (λ n l m e. omega (arith, m, e))
+
+  pair-other : (X Y P : Point) → Other 28 (numberOf (pairAnswerOf limit vs X Y P))
+  unfolding pairAnswerOf
   pair-other X Y P =
-      after-numbered Other (pairCheck limit vs X Y) (answerOf limit vs (judgeFrom X Y P) P)
-      (then-numbered Other (acceptCheck limit vs X) (secondCheck limit vs X Y) (accept-other limit vs X)
-      (fails-if-numbered Other 19 (not (isSecond limit vs X Y)) (λ e. omega arith)))
+      after-numbered (pairCheck limit vs X Y) (answerOf limit vs (judgeFrom X Y P) P)
+      (pair-numbered (Other 28) limit vs (list-other vs) (λ n l m e. omega (arith, m, e)) X (λ e. omega arith) Y)
       (answer-other (judgeFrom X Y P) P)
 
-  whole-other : (cs : List ℤ) → Numbered Other (failsIf 10 (not (isWhole cs)))
-  whole-other cs = fails-if-numbered Other 10 (not (isWhole cs)) (λ e. omega arith)
-
-  choose-other : (X : Point) (cs : List ℤ) → Other (numberOf (chooseOf limit vs X cs))
+  choose-other : (X : Point) (cs : List ℤ) → Other 28 (numberOf (chooseOf limit vs X cs))
   unfolding chooseOf earliestOf
   choose-other X cs =
-      after-numbered Other (failsIf 10 (not (isWhole cs)) then acceptCheck limit vs X) (earliestOf limit vs X cs)
-      (then-numbered Other (failsIf 10 (not (isWhole cs))) (acceptCheck limit vs X) (whole-other cs)
-      (accept-other limit vs X))
+      after-numbered (failsIf 10 (not (isWhole cs)) then acceptCheck limit vs X) (earliestOf limit vs X cs)
+      (whole-other cs both accept-other limit vs X)
       (go (firstFrom (λ i. isSecond limit vs X (vertexAt cs i)) 0 (vertexCount cs)))
     where
-      go : (f : Found) → Other (numberOf (chosen f))
+      go : (f : Found) → Other 28 (numberOf (chosen f))
       go Nothing e = omega arith
       go (At place) e = omega arith
 
 pub mixed-exactly-holds : MixedExactly
 unfolding gridAnswerOf gridPairOf gridChooseOf gridCheck
 mixed-exactly-holds = (
-  λ g vs X P. mixed-after (listCheck vs) _ _ (listed-other vs) (answer-other (limitOf g) vs (X .point) (P .point)),
+  λ g vs X P. mixed-after (listCheck vs) _ _ (list-other vs) (answer-other (limitOf g) vs (X .point) (P .point)),
   λ g vs X Y P.
-      mixed-after (listCheck vs) _ _ (listed-other vs) (pair-other (limitOf g) vs (X .point) (Y .point) (P .point)),
+      mixed-after (listCheck vs) _ _ (list-other vs) (pair-other (limitOf g) vs (X .point) (Y .point) (P .point)),
   λ g vs X h cs.
       let whole = failsIf 10 (not (isWhole cs)) in
       rw (then-assoc whole (listCheck vs) (failsIf 28 (isMixed g (X .grid ∷ h ∷ []))))
-      (mixed-after (whole then listCheck vs) _ _
-      (then-numbered Other whole (listCheck vs) (whole-other (limitOf g) vs cs) (listed-other vs))
+      (mixed-after (whole then listCheck vs) _ _ (whole-other cs both list-other vs)
       (choose-other (limitOf g) vs (X .point) cs)),
 )
 

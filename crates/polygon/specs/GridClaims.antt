@@ -9,12 +9,13 @@ use Rattle.sphere.specs.declared.point.Point.{Point}
 use Rattle.sphere.specs.declared.point.Grid.{Grid}
 use Rattle.sphere.specs.declared.point.GridPoint.{GridPoint}
 use Rattle.sphere.specs.Point.{limitOf}
-use Rattle.polygon.specs.declared.answer.Answer.{Answer}
-use Rattle.polygon.specs.declared.answer.Answer.the-variants.{Refused}
-use Rattle.polygon.specs.declared.answer.Check.{Check}
-use Rattle.polygon.specs.declared.answer.Check.the-variants.{Passed}
-use Rattle.polygon.specs.Answer.{numberOf}
-use Rattle.polygon.specs.Checks.{_then_, failsIf, listCheck}
+use Rattle.answer.specs.declared.Answer.{Answer}
+use Rattle.answer.specs.declared.Answer.the-variants.{Refused}
+use Rattle.answer.specs.declared.Check.{Check}
+use Rattle.answer.specs.declared.Check.the-variants.{Passed}
+use Rattle.answer.specs.Answer.{numberOf}
+use Rattle.answer.specs.Chain.{_then_, failsIf}
+use Rattle.polygon.specs.Checks.{listCheck}
 use Rattle.polygon.specs.Verdict.{answerOf}
 use Rattle.polygon.specs.Pair.{pairAnswerOf, isWhole, chooseOf}
 use Rattle.polygon.specs.Grids.{isMixed, gridAnswerOf, gridPairOf, gridChooseOf}

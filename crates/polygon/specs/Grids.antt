@@ -9,10 +9,11 @@ use Rattle.sphere.specs.declared.point.Grid.{Grid}
 use Rattle.sphere.specs.declared.point.Grid.the-variants.{Coarse, Fine}
 use Rattle.sphere.specs.declared.point.GridPoint.{GridPoint}
 use Rattle.sphere.specs.Point.{limitOf, isNull}
-use Rattle.polygon.specs.declared.answer.Answer.{Answer}
-use Rattle.polygon.specs.declared.answer.Check.{Check}
-use Rattle.polygon.specs.Answer.{answerAfter}
-use Rattle.polygon.specs.Checks.{_then_, failsIf, listCheck}
+use Rattle.answer.specs.declared.Answer.{Answer}
+use Rattle.answer.specs.declared.Check.{Check}
+use Rattle.answer.specs.Answer.{answerAfter}
+use Rattle.answer.specs.Chain.{_then_, failsIf}
+use Rattle.polygon.specs.Checks.{listCheck}
 use Rattle.polygon.specs.Verdict.{answerOf}
 use Rattle.polygon.specs.Pair.{pairAnswerOf, isWhole, chooseOf}
 

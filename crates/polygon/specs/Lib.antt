@@ -1,8 +1,7 @@
-pub mod Search
 pub mod Vertices
-pub mod Answer
 pub mod Checks
 pub mod Accepted
+pub mod Lines
 pub mod Border
 pub mod Verdict
 pub mod Pair

@@ -1,18 +1,22 @@
 // Document 01's lines 10 to 18, each as its own check, and their order.
-// Here, in order: fails_if; list_check (10), beyond_check (11), null_check (12), same_check (13), antipodal_check (14),
+// Here, in order: list_check (10); Line, line_number, refuses, line_check (11 to 14, by one loop);
 // reference_check (15), circle_check (16), query_check (17), far_check (18); polygon_check (10 to 14); accepts,
-// is_accepted, accept_check (10 to 16). Each check of the list passes over it once and reads each vertex once. Those
-// after line 11 rest on the grid.
+// is_accepted, accept_check (10 to 16). Each check of the list passes over it once. Those after line 12 rest on the
+// grid.
 ghost use mathlib.Core.Path.{_≡_};
+ghost use Prim.Native.Nat.{_<_};
 ghost use Rattle.sphere.specs.Point.{fine, limitOf, Within};
-ghost use Rattle.polygon.specs.declared.answer.Check.the-variants.{Passed};
-ghost use Rattle.polygon.specs.Checks.{failsIf, listCheck, beyondCheck, nullCheck, sameCheck, antipodalCheck};
-ghost use Rattle.polygon.specs.Checks.{referenceCheck, circleCheck, queryCheck, farCheck};
-ghost use Rattle.polygon.specs.Checks.{isPassed, polygonCheck, acceptCheck};
+ghost use Rattle.answer.specs.declared.Check.the-variants.{Passed};
+ghost use Rattle.answer.specs.Chain.{isPassed, failsIf};
+ghost use Rattle.polygon.specs.Checks.{listCheck, beyondCheck, referenceCheck, circleCheck};
+ghost use Rattle.polygon.specs.Checks.{queryCheck, farCheck, polygonCheck, acceptCheck};
+ghost use Rattle.polygon.specs.Lines.{lineNumber, isRefused, lineCheck, Ready};
+ghost use Rattle.polygon.specs.Vertices.{vertexCount};
 ghost use Rattle.polygon.specs.Accepted.{Listed, Gridded};
-use crate::answer::Check;
 use crate::vertices::end_of;
 use crate::vertices::vertex_at;
+use answer::Check;
+use answer::fails_if;
 use sphere::direction::antipodal;
 use sphere::direction::same_direction;
 use sphere::edge::on_circle;
@@ -21,16 +25,6 @@ use sphere::point::Point;
 use sphere::point::is_beyond;
 use sphere::point::is_null;
 use sphere::point::is_off_grid;
-
-// A check of one thing, with place 0.
-pub fn fails_if(number: u32, bad: bool) -> Check
-    ensures { λ r. ⌜ r ≡ failsIf number bad ⌝ }
-{
-    if bad {
-        return Check::Failed(number, 0);
-    }
-    Check::Passed
-}
 
 pub fn list_check(vertices: &[i32]) -> Check
     ensures { λ r. ⌜ r ≡ listCheck (now (vertices .entry)) ⌝ }
@@ -48,58 +42,49 @@ pub fn list_check(vertices: &[i32]) -> Check
     Check::Passed
 }
 
-pub fn beyond_check(grid: Grid, vertices: &[i32]) -> Check
-    ensures { λ r. ⌜ r ≡ beyondCheck (limitOf grid) (now (vertices .entry)) ⌝ }
-{
-    let n = vertices.len() / 3;
-    for i in 0..n {
-        if is_beyond(grid, vertex_at(vertices, i)) {
-            return Check::Failed(11, i);
-        }
-    }
-    Check::Passed
+// A line of the polygon alone that each vertex, or each edge, has to pass: 11 to 14.
+enum Line {
+    Beyond,
+    Null,
+    Same,
+    Antipodal,
 }
 
-pub fn null_check(vertices: &[i32]) -> Check
-    ensures { λ r. ⌜ r ≡ nullCheck (now (vertices .entry)) ⌝ }
+fn line_number(line: Line) -> u32
+    ensures { λ r. ⌜ r ≡ lineNumber line ⌝ }
 {
-    let n = vertices.len() / 3;
-    for i in 0..n {
-        if is_null(vertex_at(vertices, i)) {
-            return Check::Failed(12, i);
-        }
+    match line {
+        Line::Beyond => 11,
+        Line::Null => 12,
+        Line::Same => 13,
+        Line::Antipodal => 14,
     }
-    Check::Passed
 }
 
-fn same_check(vertices: &[i32]) -> Check
-    requires { ⌜ Listed (now vertices) × Gridded fine (now vertices) ⌝ }
-    ensures { λ r. ⌜ r ≡ sameCheck (now (vertices .entry)) ⌝ }
+// The line refuses vertex i, or edge i.
+fn refuses(line: Line, grid: Grid, vertices: &[i32], i: usize) -> bool
+    requires { ⌜ (i < vertexCount (now vertices)) × Ready line (limitOf grid) (now vertices) ⌝ }
+    ensures { λ r. ⌜ r ≡ isRefused line (limitOf grid) (now (vertices .entry)) i ⌝ }
 {
-    let n = vertices.len() / 3;
-    let mut a = vertex_at(vertices, 0);
-    for i in 0..n {
-        let b = end_of(vertices, i);
-        if same_direction(a, b) {
-            return Check::Failed(13, i);
-        }
-        a = b;
+    let a = vertex_at(vertices, i);
+    match line {
+        Line::Beyond => is_beyond(grid, a),
+        Line::Null => is_null(a),
+        Line::Same => same_direction(a, end_of(vertices, i)),
+        Line::Antipodal => antipodal(a, end_of(vertices, i)),
     }
-    Check::Passed
 }
 
-fn antipodal_check(vertices: &[i32]) -> Check
-    requires { ⌜ Listed (now vertices) × Gridded fine (now vertices) ⌝ }
-    ensures { λ r. ⌜ r ≡ antipodalCheck (now (vertices .entry)) ⌝ }
+// The compiled code asks for the line once, and has a loop for each.
+fn line_check(line: Line, grid: Grid, vertices: &[i32]) -> Check
+    requires { ⌜ Ready line (limitOf grid) (now vertices) ⌝ }
+    ensures { λ r. ⌜ r ≡ lineCheck line (limitOf grid) (now (vertices .entry)) ⌝ }
 {
     let n = vertices.len() / 3;
-    let mut a = vertex_at(vertices, 0);
     for i in 0..n {
-        let b = end_of(vertices, i);
-        if antipodal(a, b) {
-            return Check::Failed(14, i);
+        if refuses(line, grid, vertices, i) {
+            return Check::Failed(line_number(line), i);
         }
-        a = b;
     }
     Check::Passed
 }
@@ -110,7 +95,8 @@ pub fn reference_check(grid: Grid, known: Point) -> Check
     fails_if(15, is_off_grid(grid, known))
 }
 
-// The reference point on the great circle of an edge.
+// The reference point on the great circle of an edge. A loop of its own that carries each edge's start on: as one more
+// line of `line_check` its compiled code would ask for the grid at every edge.
 fn circle_check(grid: Grid, vertices: &[i32], known: Point) -> Check
     requires { ⌜ Listed (now vertices) × Gridded (limitOf grid) (now vertices) × Within (limitOf grid) known ⌝ }
     ensures { λ r. ⌜ r ≡ circleCheck (now (vertices .entry)) known ⌝ }
@@ -148,19 +134,19 @@ pub fn polygon_check(grid: Grid, vertices: &[i32]) -> Check
         Check::Passed => {}
         Check::Failed(number, place) => return Check::Failed(number, place),
     }
-    match beyond_check(grid, vertices) {
+    match line_check(Line::Beyond, grid, vertices) {
         Check::Passed => {}
         Check::Failed(number, place) => return Check::Failed(number, place),
     }
-    match null_check(vertices) {
+    match line_check(Line::Null, grid, vertices) {
         Check::Passed => {}
         Check::Failed(number, place) => return Check::Failed(number, place),
     }
-    match same_check(vertices) {
+    match line_check(Line::Same, grid, vertices) {
         Check::Passed => {}
         Check::Failed(number, place) => return Check::Failed(number, place),
     }
-    antipodal_check(vertices)
+    line_check(Line::Antipodal, grid, vertices)
 }
 
 // The polygon accepts the point as its reference point, where lines 10 and 11 hold. Off the circle of each edge there
@@ -187,7 +173,7 @@ fn is_accepted(grid: Grid, vertices: &[i32], known: Point) -> bool
         Check::Passed => {}
         Check::Failed(_, _) => return false,
     }
-    match beyond_check(grid, vertices) {
+    match line_check(Line::Beyond, grid, vertices) {
         Check::Passed => {}
         Check::Failed(_, _) => return false,
     }

@@ -1,6 +1,6 @@
 -- The claims of specs/Claims, proved.
--- Proved, in order: read-never-ten, sheet-size, read-writes-back, written-reads-back, sheet-answers-as-list. The
--- octant's sheets are in proofs/Octant, the feed in proofs/Fed.
+-- Proved, in order: read-never-ten, sheet-size, read-writes-back, written-reads-back. The octant's sheets
+-- are in proofs/Octant, mixed grids in proofs/Mixed.
 use mathlib.Core.Path.{_≡_, refl, sym, ap, _∙_}
 use mathlib.Core.Bool.{Bool, true, false, cond}
 use mathlib.Core.List.{List, [], _∷_, _++_, append-nil}
@@ -13,46 +13,47 @@ use Rattle.sphere.specs.declared.point.Point.{Point}
 use Rattle.sphere.specs.declared.point.Grid.{Grid}
 use Rattle.sphere.specs.declared.point.Grid.the-variants.{Coarse, Fine}
 use Rattle.sphere.specs.Point.{limitOf, isNull}
-use Rattle.polygon.specs.declared.answer.Answer.the-variants.{Done}
-use Rattle.polygon.specs.declared.answer.Check.{Check}
-use Rattle.polygon.specs.declared.answer.Check.the-variants.{Passed, Failed}
-use Rattle.polygon.specs.Answer.{numberOf, answerAfter}
+use Rattle.answer.specs.declared.Answer.the-variants.{Done}
+use Rattle.answer.specs.declared.Check.{Check}
+use Rattle.answer.specs.declared.Check.the-variants.{Passed, Failed}
+use Rattle.answer.specs.Answer.{numberOf, answerAfter}
 use Rattle.polygon.specs.Pair.{optionalCheck}
-use Rattle.polygon.proofs.Laws.Checks.{here-passed, then-passed, accepted-some}
+use Rattle.answer.proofs.Laws.Chain.{here-passed, then-passed}
+use Rattle.polygon.proofs.Laws.Checks.{accepted-some}
 use Rattle.polygon.specs.Grids.{isMixed, gridCheck, gridOfSecond}
 use Rattle.polygon.specs.GridClaims.{on}
-use Rattle.polygon.proofs.Laws.Pair.{optional-first, second-passed, called-judged}
-use Rattle.sheet.specs.Fields.{isAllowed, isCharset, fieldCheck, charsetStart, nameStart, gridOf, secondStart}
-use Rattle.sheet.specs.Fields.{hasSecond, sheetEnd, charsetCheck, fiveFields, sheetFields, restCheck, fieldsCheck}
+use Rattle.polygon.proofs.Laws.Pair.{optional-first, second-passed}
+use Rattle.fields.specs.Fields.{isAllowed, isCharset, fieldCheck, charsetStart, nameStart, gridOf, secondStart}
+use Rattle.fields.specs.Fields.{hasSecond, sheetEnd, charsetCheck, fiveFields, sheetFields, restCheck, fieldsCheck}
+use Rattle.answer.proofs.Laws.Numbers.{Numbered}
 use Rattle.sheet.specs.Sheet.{charsetOf, nameOf, knownOf, verticesOf, secondOf, sheetCheck, readAfter, readOf}
-use Rattle.sheet.specs.Judge.{sheetAnswerOf}
-use Rattle.sheet.specs.Write.{neededFor, inputCheck, writeCheck, writeOf, writtenTo}
-use Rattle.sheet.specs.Claims.{WrittenReadsBack, ReadWritesBack, ReadNeverTen, SheetSize, SheetAnswersAsList}
-use Rattle.sheet.proofs.Laws.Fields.{passed-field, passed-fields, passed-spans, five-passed, end-plain}
-use Rattle.sheet.proofs.Laws.Fields.{end-carried, end-within}
+use Rattle.sheet.specs.Write.{bytesNeeded, inputCheck, writeCheck, writeOf, writtenTo}
+use Rattle.sheet.specs.Claims.{WrittenReadsBack, ReadWritesBack, ReadNeverTen, SheetSize}
+use Rattle.fields.proofs.Laws.Fields.{passed-field, passed-fields, passed-spans, five-passed, end-absent, end-present}
+use Rattle.fields.proofs.Laws.Fields.{end-within}
 use Rattle.sheet.proofs.Laws.Accepted.{list-check}
 use Rattle.sheet.proofs.Laws.Stores.{sheetBytes-length}
 use Rattle.sheet.proofs.Laws.Second.{size-kept, second-kept}
 use Rattle.sheet.proofs.Laws.Kept.{nameOf-length, verticesOf-length, sheet-kept}
 use Rattle.sheet.proofs.Laws.Written.{reads-as}
-use Rattle.sheet.proofs.Laws.Reads.{carried-second, sheet-carried, sheet-plain, sheet-fields, sheet-sound}
+use Rattle.sheet.proofs.Laws.Reads.{second-present, sheet-second, sheet-plain, sheet-fields, sheet-sound}
 use Rattle.sheet.proofs.Laws.Reads.{sheet-optional, read-accepted}
 use Rattle.sheet.proofs.Laws.Writes.{passed-writable}
 use Rattle.sheet.proofs.Laws.Numbers.{Above, above-sheet, above-write}
 
 -- ---- success is told by its number
-read-passed : (b : List ℕ) (c : Check) → Above 10 c → numberOf (readAfter c b .answer) ≡ 0 → c ≡ Passed
+read-passed : (b : List ℕ) (c : Check) → Numbered (Above 10) c → numberOf (readAfter c b .answer) ≡ 0 → c ≡ Passed
 read-passed b Passed h e = refl
-read-passed b (Failed n p) h e = absurd (omega (arith, h .number n p refl))
+read-passed b (Failed n p) h e = absurd (omega (arith, h .each n p refl))
 
-read-done : (b : List ℕ) → numberOf (readOf b .answer) ≡ 0 → sheetCheck b ≡ Passed
+pub read-done : (b : List ℕ) → numberOf (readOf b .answer) ≡ 0 → sheetCheck b ≡ Passed
 unfolding readOf
 read-done b e = read-passed b (sheetCheck b) (above-sheet b) e
 
 -- ---- the two small claims
-not-ten : (b : List ℕ) (c : Check) → Above 10 c → numberOf (readAfter c b .answer) ≡ 10 → ⊥
+not-ten : (b : List ℕ) (c : Check) → Numbered (Above 10) c → numberOf (readAfter c b .answer) ≡ 10 → ⊥
 not-ten b Passed h e = omega arith
-not-ten b (Failed n p) h e = omega (arith, h .number n p refl)
+not-ten b (Failed n p) h e = omega (arith, h .each n p refl)
 
 pub read-never-ten : ReadNeverTen
 unfolding readOf
@@ -72,10 +73,10 @@ module _ (b : List ℕ) (e : sheetCheck b ≡ Passed) where
       let rest = then-passed (sheetFields b) (restCheck b) (sheet-fields b e) .1 in
       ltb-false (sheetEnd b) (length b) (here-passed 24 (sheetEnd b) _ rest)
 
-  carried-some : hasSecond b ≡ true → isNull (secondOf b) ≡ false
-  carried-some has =
-      let carried = sym (sheet-carried b (sheet-plain b e)) ∙ e in
-      let passed = sym (carried-second b has .1) ∙ carried in
+  second-some : hasSecond b ≡ true → isNull (secondOf b) ≡ false
+  second-some has =
+      let beside = sym (sheet-second b (sheet-plain b e)) ∙ e in
+      let passed = sym (second-present b has .1) ∙ beside in
       let second = second-passed (limitOf (gridOf b)) (verticesOf b) (knownOf b) (secondOf b) passed in
       accepted-some (limitOf (gridOf b)) (verticesOf b) (secondOf b) (second .accepted)
 
@@ -86,15 +87,15 @@ module _ (b : List ℕ) (e : sheetCheck b ≡ Passed) where
         sound = sheet-sound b e;
         ends = omega (arith, no-rest, within);
         points = sheet-optional b e;
-        some = carried-some;
+        some = second-some;
       }
 
   end-bound : sheetEnd b ≤ secondStart b + 15
   end-bound = go (hasSecond b) refl
     where
       go : (t : Bool) → hasSecond b ≡ t → sheetEnd b ≤ secondStart b + 15
-      go true has = omega (arith, end-carried b has)
-      go false has = omega (arith, end-plain b has)
+      go true has = omega (arith, end-present b has)
+      go false has = omega (arith, end-absent b has)
 
 pub sheet-size : SheetSize
 sheet-size b e =
@@ -130,7 +131,7 @@ module _ (b : List ℕ) (a : Accepted b) where
       ap (isAllowed 1 120 1) (nameOf-length b five)
       ∙ passed-field 3 (isAllowed 1 120 1) b nameStart (passed-fields b five .name) .allowed
 
-  needed : neededFor (nameOf b) (verticesOf b) (secondOf b) ≡ length b
+  needed : bytesNeeded (nameOf b) (verticesOf b) (secondOf b) ≡ length b
   needed =
       let s = passed-spans b five in
       let k = size-kept b (a .sound) (a .ends) (a .some) in
@@ -142,7 +143,7 @@ module _ (b : List ℕ) (a : Accepted b) where
       writeCheck (charsetOf b) (nameOf b) (on g (knownOf b)) g (verticesOf b) (on g (secondOf b)) room ≡ Passed
   unfolding writeCheck inputCheck gridCheck
   kept-check room e =
-      let n = neededFor (nameOf b) (verticesOf b) (secondOf b) in
+      let n = bytesNeeded (nameOf b) (verticesOf b) (secondOf b) in
       let limit = limitOf (gridOf b) in
       let first = optional-first limit (verticesOf b) (knownOf b) (secondOf b) (a .points) in
       let list = list-check limit (verticesOf b) (knownOf b) first in
@@ -161,9 +162,9 @@ read-writes-back b buffer are e n =
 
 -- ---- what is written reads back
 
-write-passed : (c : Check) (place : ℕ) → Above 9 c → numberOf (answerAfter c (Done place)) ≡ 0 → c ≡ Passed
+write-passed : (c : Check) (place : ℕ) → Numbered (Above 9) c → numberOf (answerAfter c (Done place)) ≡ 0 → c ≡ Passed
 write-passed Passed place h e = refl
-write-passed (Failed n p) place h e = absurd (omega (arith, h .number n p refl))
+write-passed (Failed n p) place h e = absurd (omega (arith, h .each n p refl))
 
 pub written-reads-back : WrittenReadsBack
 unfolding writeOf writtenTo writeCheck
@@ -176,12 +177,3 @@ written-reads-back zone charset name known g vertices second buffer small e =
     let w = passed-writable charset name known g vertices second zone small input in
     let size = sheetBytes-length zone charset name (known .point) g vertices (second .point) in
     rw c (reads-as zone charset name (known .point) g vertices (second .point) w _ (take-at _ _ _ size))
-
--- ---- judging by a sheet is judging by its parts
-pub sheet-answers-as-list : SheetAnswersAsList
-unfolding sheetAnswerOf
-sheet-answers-as-list b P e =
-    let done = read-done b e in
-    let ok = sheet-optional b done in
-    rw (read-accepted b done, done)
-    (ok, sym (called-judged (limitOf (gridOf b)) (verticesOf b) (knownOf b) (secondOf b) P ok))

@@ -1,4 +1,4 @@
--- The octant's sheets, byte by byte, and what is read and judged of them. The checker computes all of it, so every
+-- The octant's sheets, byte by byte, and what is read of them. The checker computes all of it, so every
 -- definition that it goes through is opened here. Proved: octant-sheet, octant-pair-sheet,
 -- octant-fine-sheet.
 use mathlib.Core.Path.{refl}
@@ -7,19 +7,17 @@ use Rattle.sphere.specs.Orientation.{orientationOf, crossOf, dotOf}
 use Rattle.sphere.specs.Direction.{isSameDirection, isAntipodal}
 use Rattle.sphere.specs.Crossing.{crossingOf}
 use Rattle.sphere.specs.OnEdge.{isOnEdge}
-use Rattle.big_endian.specs.Bytes.{shortAt, wordAt, signed, intAt, pointAt, intsAt}
-use Rattle.big_endian.specs.Bytes.{shortBytes, wordBytes, wordOf, intBytes, intsBytes}
-use Rattle.polygon.specs.Search.{firstFrom, countFrom, sumFrom}
+use Rattle.big_endian.specs.Bytes.{shortAt, wordAt, signed, intAt, pointAt, intsAt, shortBytes, wordBytes, wordOf}
+use Rattle.big_endian.specs.Bytes.{intBytes, intsBytes}
+use Rattle.answer.specs.Search.{firstFrom, countFrom, sumFrom}
 use Rattle.polygon.specs.Vertices.{vertexAt, nextOf}
 use Rattle.polygon.specs.Checks.{listCheck, beyondCheck, nullCheck, sameCheck, antipodalCheck, referenceCheck}
 use Rattle.polygon.specs.Checks.{circleCheck, queryCheck, farCheck, polygonCheck, acceptCheck, judgeCheck}
 use Rattle.polygon.specs.Verdict.{boundaryOf, crossingsOf, windingOf, verdictOf, answerOf}
-use Rattle.polygon.specs.Pair.{isSecond, secondCheck, judgeFrom}
-use Rattle.sheet.specs.Fields.{isAllowed, fieldEnd, fieldCheck, gridAt, hasSecond, isCharset, charsetCheck}
-use Rattle.sheet.specs.Fields.{fiveFields}
-use Rattle.sheet.specs.Fields.{secondField, sheetFields, restCheck, fieldsCheck}
-use Rattle.sheet.specs.Sheet.{secondOf, plainCheck, carriedCheck, sheetCheck, readOf}
-use Rattle.sheet.specs.Judge.{sheetAnswerOf}
+use Rattle.polygon.specs.Pair.{isSecond, secondCheck}
+use Rattle.fields.specs.Fields.{isAllowed, fieldEnd, fieldCheck, gridAt, hasSecond, isCharset, charsetCheck, fiveFields}
+use Rattle.fields.specs.Fields.{secondField, sheetFields, restCheck, fieldsCheck}
+use Rattle.sheet.specs.Sheet.{secondOf, plainCheck, sheetSecondCheck, sheetCheck, readOf}
 use Rattle.sheet.specs.Write.{fieldBytes, secondBytes, sheetBytes}
 use Rattle.sheet.specs.Claims.{OctantSheet, OctantPairSheet, OctantFineSheet, octantBytes, octantPairBytes}
 
@@ -29,22 +27,22 @@ octant-sheet = refl
 
 pub octant-pair-sheet : OctantPairSheet
 unfolding octantBytes octantPairBytes sheetBytes secondBytes fieldBytes shortBytes wordBytes intBytes intsBytes wordOf
-    readOf sheetAnswerOf sheetCheck plainCheck carriedCheck secondOf fieldsCheck restCheck sheetFields secondField
+    readOf sheetCheck plainCheck sheetSecondCheck secondOf fieldsCheck restCheck sheetFields secondField
     fiveFields charsetCheck isCharset hasSecond gridAt fieldCheck fieldEnd isAllowed shortAt wordAt signed intAt pointAt
     intsAt
-    secondCheck isSecond judgeFrom answerOf judgeCheck acceptCheck polygonCheck listCheck beyondCheck nullCheck
+    secondCheck isSecond answerOf judgeCheck acceptCheck polygonCheck listCheck beyondCheck nullCheck
     sameCheck antipodalCheck referenceCheck circleCheck queryCheck farCheck verdictOf boundaryOf crossingsOf windingOf
     firstFrom countFrom sumFrom vertexAt nextOf isOffGrid isBeyond isFar isNull isSameDirection isAntipodal crossingOf
     isOnEdge orientationOf crossOf dotOf
-octant-pair-sheet = (refl, refl, refl, refl)
+octant-pair-sheet = (refl, refl)
 
 pub octant-fine-sheet : OctantFineSheet
 unfolding octantBytes sheetBytes secondBytes fieldBytes shortBytes wordBytes intBytes intsBytes wordOf
-    readOf sheetAnswerOf sheetCheck plainCheck carriedCheck secondOf fieldsCheck restCheck sheetFields secondField
+    readOf sheetCheck plainCheck sheetSecondCheck secondOf fieldsCheck restCheck sheetFields secondField
     fiveFields charsetCheck isCharset hasSecond gridAt fieldCheck fieldEnd isAllowed shortAt wordAt signed intAt pointAt
     intsAt
-    judgeFrom answerOf judgeCheck acceptCheck polygonCheck listCheck beyondCheck nullCheck
+    acceptCheck polygonCheck listCheck beyondCheck nullCheck
     sameCheck antipodalCheck referenceCheck circleCheck queryCheck farCheck verdictOf boundaryOf crossingsOf windingOf
     firstFrom countFrom sumFrom vertexAt nextOf isOffGrid isBeyond isFar isNull isSameDirection isAntipodal crossingOf
     isOnEdge orientationOf crossOf dotOf
-octant-fine-sheet = (refl, refl, refl, refl, refl)
+octant-fine-sheet = (refl, refl, refl)

@@ -2,36 +2,30 @@
 -- written reads back the same, on either grid), ReadWritesBack (what is read writes back the same bytes),
 -- WriteMixedExactly (28), ReadNeverTen (reading never gives 10), SheetSize (a sheet has 69 to 49,319 bytes),
 -- OctantSheet (document 01's sheet of 69 bytes, byte by byte: the round trips would hold of another layout too),
--- OctantPairSheet (the same with a second point, 84 bytes), OctantFineSheet (the same with tag 7), SheetAnswersAsList
--- (judging by a sheet is judging by the list and the points in it, so that polygon's claims hold of it),
--- SheetFeedEqualsSingle (a feed by a sheet answers each query as the single call does). They are of the definitions
--- that the contracts of `read`, `load`, `write`, `judge` and `feed` cite. A second point of all zero is none.
+-- OctantPairSheet (the same with a second point, 84 bytes), OctantFineSheet (the same with tag 7). They are of the
+-- definitions that the contracts of `read`, `load` and `write` cite. A second point of all zero is none.
 use mathlib.Core.Path.{_≡_}
 use mathlib.Core.Bool.{not}
 use mathlib.Core.List.{List, [], _∷_, _++_}
 use Prim.Native.Nat.{ℕ, _≤_, _<_}
-use lib.IntN.{ℤ, pos, negsuc}
+use lib.IntN.{ℤ, pos}
 use lib.ListN.{length, take, drop}
 use Rattle.sphere.specs.declared.point.Point.{Point}
 use Rattle.sphere.specs.declared.point.Grid.{Grid}
 use Rattle.sphere.specs.declared.point.Grid.the-variants.{Coarse, Fine}
 use Rattle.sphere.specs.declared.point.GridPoint.{GridPoint}
-use Rattle.sphere.specs.Point.{limitOf}
 use Rattle.big_endian.specs.Bytes.{AreBytes}
-use Rattle.batch.specs.Feed.{noSecond}
-use Rattle.batch.specs.Claims.{Fed}
-use Rattle.polygon.specs.declared.answer.Answer.the-variants.{Done, Inside, Outside, Refused}
-use Rattle.polygon.specs.declared.answer.Check.the-variants.{Passed}
-use Rattle.polygon.specs.Answer.{numberOf, placeOf}
+use Rattle.polygon.specs.Pair.{noSecond}
+use Rattle.answer.specs.declared.Answer.the-variants.{Done}
+use Rattle.answer.specs.Answer.{numberOf, placeOf}
 use Rattle.polygon.specs.Vertices.{vertexCount}
-use Rattle.polygon.specs.Checks.{_then_, failsIf, listCheck}
-use Rattle.polygon.specs.Pair.{optionalCheck, calledOf}
+use Rattle.answer.specs.Chain.{_then_, failsIf}
+use Rattle.polygon.specs.Checks.{listCheck}
 use Rattle.polygon.specs.Grids.{isMixed, gridOfSecond}
 use Rattle.polygon.specs.GridClaims.{Mixed, on}
-use Rattle.sheet.specs.Fields.{isCharset, isNameLength}
+use Rattle.fields.specs.Fields.{isCharset, isNameLength}
 use Rattle.sheet.specs.declared.read.Sheet.{Sheet}
 use Rattle.sheet.specs.Sheet.{nameAt, verticesOf, readOf}
-use Rattle.sheet.specs.Judge.{sheetAnswerOf, sheetFeedOf, sheetFedTo}
 use Rattle.sheet.specs.Write.{sheetBytes, writeOf, writtenTo}
 
 -- The name's bytes, by the place and the length that reading hands back.
@@ -114,45 +108,21 @@ octantBytes tag =
 abbrev pub OctantSheet : Type 0
 OctantSheet = sheetBytes 7 1 (65 ∷ []) centre Coarse octant noSecond ≡ octantBytes 5
 
--- The same with the second point (1,1,2), which passes: the sheet reads, and K8, opposite the known point, is judged.
+-- The same with the second point (1,1,2), which passes: the sheet reads.
 abbrev second : Point
 second = record { x = pos 1; y = pos 1; z = pos 2 }
 
 unfoldable pub octantPairBytes : List ℕ
 octantPairBytes = octantBytes 5 ++ (6 ∷ 0 ∷ 12 ∷ coordinates (1 ∷ 1 ∷ 2 ∷ []))
 
-abbrev farthest : Point
-farthest = record { x = negsuc 0; y = negsuc 0; z = negsuc 0 }
-
 abbrev pub OctantPairSheet : Type 0
 OctantPairSheet =
     (sheetBytes 7 1 (65 ∷ []) centre Coarse octant second ≡ octantPairBytes)
     × (readOf octantPairBytes .answer ≡ Done 84)
-    × (sheetAnswerOf (octantBytes 5) farthest ≡ Refused 18 0)
-    × (sheetAnswerOf octantPairBytes farthest ≡ Outside 1 (negsuc 0))
 
--- The same octant on the fine grid: tag 7 in place of 5. A query beyond the coarse grid is judged by it.
-abbrev beyond : Point
-beyond = record { x = pos 1048577; y = pos 1; z = pos 1 }
-
+-- The same octant on the fine grid: tag 7 in place of 5.
 abbrev pub OctantFineSheet : Type 0
 OctantFineSheet =
     (sheetBytes 7 1 (65 ∷ []) centre Fine octant noSecond ≡ octantBytes 7)
     × (readOf (octantBytes 7) .answer ≡ Done 69)
     × (readOf (octantBytes 7) .grid ≡ Fine)
-    × (sheetAnswerOf (octantBytes 5) beyond ≡ Refused 17 0)
-    × (sheetAnswerOf (octantBytes 7) beyond ≡ Inside 0 (pos 0))
-
--- With the parts of a sheet that was read: they are accepted, and the answer is theirs.
-abbrev pub SheetAnswersAsList : Type 0
-SheetAnswersAsList =
-    (b : List ℕ) (P : Point) → numberOf (readOf b .answer) ≡ 0 →
-    let s = readOf b in
-    (optionalCheck (limitOf (s .grid)) (verticesOf b) (s .known) (s .second) ≡ Passed)
-    × (sheetAnswerOf b P ≡ calledOf (limitOf (s .grid)) (verticesOf b) (s .known) (s .second) P)
-
--- After a feed that succeeds the result buffer holds what the single call by the sheet answers to each query.
-abbrev pub SheetFeedEqualsSingle : Type 0
-SheetFeedEqualsSingle =
-    (b queries buffer : List ℕ) → sheetFeedOf b queries (length buffer) ≡ Done 0 →
-    Fed (sheetAnswerOf b) queries buffer (sheetFedTo b queries buffer)

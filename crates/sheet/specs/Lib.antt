@@ -1,6 +1,4 @@
-pub mod Fields
 pub mod Sheet
-pub mod Judge
-pub mod Choose
+pub mod Open
 pub mod Write
 pub mod Claims

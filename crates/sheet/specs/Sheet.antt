@@ -1,25 +1,25 @@
 -- Document 01, 'The zone sheet', second layer: what the fields mean, and what reading hands back. Defined, in order:
 -- zoneOf, charsetOf, nameAt, nameLength, nameOf, knownOf, vertexCountOf, verticesOf, secondOf; plainCheck (20 to 24,
--- then 11 to 16), carriedCheck (19), sheetCheck (all of them); refusedSheet, readAfter, readOf; loadedOf, roomFor,
--- decodedOf. On bytes that are no sheet the parts mean nothing and only sheetCheck counts.
+-- then 11 to 16), sheetSecondCheck (19), sheetCheck (all of them); refusedSheet, readAfter, readOf; loadedAfter,
+-- loadedOf. On bytes that are no sheet the parts mean nothing and only sheetCheck counts.
 use mathlib.Core.Bool.{cond}
 use mathlib.Core.List.{List, _++_}
-use Prim.Native.Nat.{ℕ, _+_, _*_, _-_, _/_}
+use Prim.Native.Nat.{ℕ, _+_, _*_, _/_}
 use lib.IntN.{ℤ, pos}
 use lib.ListN.{length, take, drop}
 use Rattle.sphere.specs.declared.point.Point.{Point}
 use Rattle.sphere.specs.declared.point.Grid.the-variants.{Coarse}
 use Rattle.sphere.specs.Point.{limitOf}
 use Rattle.big_endian.specs.Bytes.{byteAt, shortAt, wordAt, pointAt, intsAt}
-use Rattle.polygon.specs.declared.answer.Answer.the-variants.{Done, Refused}
-use Rattle.polygon.specs.declared.answer.Check.{Check}
-use Rattle.polygon.specs.declared.answer.Check.the-variants.{Passed, Failed}
-use Rattle.polygon.specs.Checks.{_then_, acceptCheck}
-use Rattle.polygon.specs.Pair.{secondCheck}
-use Rattle.batch.specs.Feed.{noSecond}
+use Rattle.answer.specs.declared.Answer.the-variants.{Done, Refused}
+use Rattle.answer.specs.declared.Check.{Check}
+use Rattle.answer.specs.declared.Check.the-variants.{Passed, Failed}
+use Rattle.answer.specs.Chain.{_then_}
+use Rattle.polygon.specs.Checks.{acceptCheck}
+use Rattle.polygon.specs.Pair.{secondCheck, noSecond}
 use Rattle.sheet.specs.declared.read.Sheet.{Sheet}
-use Rattle.sheet.specs.Fields.{charsetStart, nameStart, knownStart, verticesStart, gridOf, secondStart}
-use Rattle.sheet.specs.Fields.{hasSecond, fieldsCheck}
+use Rattle.fields.specs.Fields.{charsetStart, nameStart, knownStart, verticesStart, gridOf, secondStart, hasSecond}
+use Rattle.fields.specs.Fields.{fieldsCheck}
 
 -- ---- the parts
 
@@ -59,11 +59,12 @@ unfoldable pub plainCheck : List ℕ → Check
 plainCheck b = fieldsCheck b then acceptCheck (limitOf (gridOf b)) (verticesOf b) (knownOf b)
 
 -- The second point, where the field is there: one of all zero fails too.
-unfoldable pub carriedCheck : List ℕ → Check
-carriedCheck b = cond (hasSecond b) (secondCheck (limitOf (gridOf b)) (verticesOf b) (knownOf b) (secondOf b)) Passed
+unfoldable pub sheetSecondCheck : List ℕ → Check
+sheetSecondCheck b =
+    cond (hasSecond b) (secondCheck (limitOf (gridOf b)) (verticesOf b) (knownOf b) (secondOf b)) Passed
 
 unfoldable pub sheetCheck : List ℕ → Check
-sheetCheck b = plainCheck b then carriedCheck b
+sheetCheck b = plainCheck b then sheetSecondCheck b
 
 -- A refusal, and zeros beside it; the coarse grid is the number 0.
 abbrev pub refusedSheet : ℕ → ℕ → Sheet
@@ -105,11 +106,3 @@ loadedAfter Passed b out = verticesOf b ++ drop (vertexCountOf b * 3) out
 -- What loading leaves in the numbers that a user lends: the vertices of an accepted sheet, and else all as it was.
 unfoldable pub loadedOf : List ℕ → List ℤ → List ℤ
 loadedOf b out = loadedAfter (sheetCheck b) b out
-
--- Numbers enough for the vertices of a sheet of these bytes: a quarter of them, and at most those of 4,096 vertices.
-abbrev pub roomFor : List ℕ → ℕ
-roomFor b = length b / 4 - (length b / 4 - 12288)
-
--- What the checks leave in their own scratch space: the vertices, as soon as the fields are sound.
-unfoldable pub decodedOf : List ℕ → List ℤ → List ℤ
-decodedOf b scratch = loadedAfter (fieldsCheck b) b scratch

@@ -1,5 +1,5 @@
 -- Document 01, 'The zone sheet': the bytes of a sheet, and what writing one does on every input.
--- Defined, in order: fieldBytes, secondBytes, secondSize, sheetBytes, neededFor, Storable; inputCheck (23, 22, 10,
+-- Defined, in order: fieldBytes, secondBytes, secondSize, sheetBytes, bytesNeeded, Storable; inputCheck (23, 22, 10,
 -- 28, 11 to 16, 19), writeCheck (25 too), writeOf, writtenTo. A second point of all zero is none (document 02, P4), and
 -- has no grid (P8).
 use mathlib.Core.Bool.{not, cond}
@@ -13,15 +13,15 @@ use Rattle.sphere.specs.declared.point.Grid.{Grid}
 use Rattle.sphere.specs.declared.point.GridPoint.{GridPoint}
 use Rattle.sphere.specs.Point.{limitOf, Within, isNull}
 use Rattle.big_endian.specs.Bytes.{shortBytes, wordBytes, intsBytes, pointBytes}
-use Rattle.polygon.specs.declared.answer.Answer.{Answer}
-use Rattle.polygon.specs.declared.answer.Answer.the-variants.{Done}
-use Rattle.polygon.specs.declared.answer.Check.{Check}
-use Rattle.polygon.specs.Answer.{answerAfter}
-use Rattle.polygon.specs.Checks.{_then_, failsHere, failsIf}
+use Rattle.answer.specs.declared.Answer.{Answer}
+use Rattle.answer.specs.declared.Answer.the-variants.{Done}
+use Rattle.answer.specs.declared.Check.{Check}
+use Rattle.answer.specs.Answer.{answerAfter}
+use Rattle.answer.specs.Chain.{_then_, failsHere, failsIf}
 use Rattle.polygon.specs.Pair.{optionalCheck}
 use Rattle.polygon.specs.Grids.{isMixed, gridCheck, gridOfSecond}
-use Rattle.batch.specs.Buffer.{bufferAfter}
-use Rattle.sheet.specs.Fields.{tagOf, isCharset, isNameLength}
+use Rattle.answer.specs.Buffer.{bufferAfter}
+use Rattle.fields.specs.Fields.{tagOf, isCharset, isNameLength}
 
 -- A field: its tag, its length, its body.
 unfoldable pub fieldBytes : ℕ → List ℕ → List ℕ
@@ -43,8 +43,8 @@ sheetBytes zone charset name known g vertices second =
     ++ (fieldBytes 4 (pointBytes known) ++ (fieldBytes (tagOf g) (intsBytes vertices) ++ secondBytes second))))
 
 -- The bytes that it takes: 32 beside the name, the vertices and the second point.
-abbrev pub neededFor : List ℕ → List ℤ → Point → ℕ
-neededFor name vertices second = 32 + length name + length vertices * 4 + secondSize second
+abbrev pub bytesNeeded : List ℕ → List ℤ → Point → ℕ
+bytesNeeded name vertices second = 32 + length name + length vertices * 4 + secondSize second
 
 -- What the code that stores a sheet wants of its numbers, in `room` bytes. Every input that passes the checks has it.
 pub record Storable (charset : ℕ) (name : List ℕ) (known : Point) (vertices : List ℤ) (second : Point) (room : ℕ)
@@ -54,7 +54,7 @@ pub record Storable (charset : ℕ) (name : List ℕ) (known : Point) (vertices 
   pub known-small : Within 2147483647 known
   pub row-short : length vertices ≤ 12288
   pub second-small : Within 2147483647 second
-  pub enough : neededFor name vertices second ≤ room
+  pub enough : bytesNeeded name vertices second ≤ room
 
 -- ---- writing into `room` bytes
 
@@ -68,11 +68,12 @@ inputCheck charset name known g vertices second =
 unfoldable pub writeCheck : ℕ → List ℕ → GridPoint → Grid → List ℤ → GridPoint → ℕ → Check
 writeCheck charset name known g vertices second room =
     inputCheck charset name known g vertices second
-    then failsHere 25 (neededFor name vertices (second .point)) (ltb room (neededFor name vertices (second .point)))
+    then failsHere 25 (bytesNeeded name vertices (second .point)) (ltb room (bytesNeeded name vertices (second .point)))
 
 unfoldable pub writeOf : ℕ → List ℕ → GridPoint → Grid → List ℤ → GridPoint → ℕ → Answer
 writeOf charset name known g vertices second room =
-    answerAfter (writeCheck charset name known g vertices second room) (Done (neededFor name vertices (second .point)))
+    answerAfter (writeCheck charset name known g vertices second room)
+    (Done (bytesNeeded name vertices (second .point)))
 
 -- The buffer after the call.
 unfoldable pub writtenTo : ℕ → ℕ → List ℕ → GridPoint → Grid → List ℤ → GridPoint → List ℕ → List ℕ

@@ -1,13 +1,15 @@
-// Reading a sheet. Here, in order: Sheet, refused, accepted, sheet_check, read, load. Any bytes.
+// Reading a sheet. Here, in order: Sheet, refused, accepted, opened, sheet_check, read, load. Any bytes.
 ghost use mathlib.Core.Path.{_≡_};
-ghost use Rattle.polygon.specs.declared.answer.Check.the-variants.{Passed};
-ghost use Rattle.sheet.specs.Fields.{sheetFields};
+ghost use Rattle.answer.specs.declared.Check.the-variants.{Passed};
+ghost use Rattle.fields.specs.Fields.{sheetFields};
 ghost use Rattle.sheet.specs.Sheet.{sheetCheck, refusedSheet, readAfter, readOf, loadedOf};
-use crate::fields;
-use crate::open;
+ghost use Rattle.sheet.specs.Open.{openedAfter};
+use crate::open::Opened;
+use crate::open::decode_vertices;
+use crate::open::open_into;
+use answer::Answer;
+use answer::Check;
 use big_endian::read;
-use polygon::answer::Answer;
-use polygon::answer::Check;
 use sphere::point::Grid;
 use sphere::point::Point;
 
@@ -42,37 +44,50 @@ fn refused(number: u32, place: usize) -> Sheet
 }
 
 // A sheet that passed every check.
-fn accepted(b: &[u8]) -> Sheet
-    requires { ⌜ sheetFields (now b) ≡ Passed ⌝ }
+fn accepted(b: &[u8], sheet: Opened) -> Sheet
+    requires { ⌜ (sheetFields (now b) ≡ Passed) × (sheet ≡ openedAfter Passed (now b)) ⌝ }
     ensures { λ r. ⌜ r ≡ readAfter Passed (now (b .entry)) ⌝ }
 {
+    let grid = sheet.grid;
+    let known = sheet.known;
+    let second = sheet.second;
     Sheet {
         answer: Answer::Done(b.len()),
         zone: read::word_at(b, 3),
         charset: read::byte_at(b, fields::CHARSET_START + 3),
         name_at: fields::NAME_START + 3,
         name_len: read::short_at(b, fields::NAME_START + 1) as usize,
-        known: open::known_point(b),
-        vertex_count: open::vertex_count(b),
-        second: open::second_point(b),
-        grid: fields::grid(b),
+        known: known,
+        vertex_count: sheet.count,
+        second: second,
+        grid: grid,
     }
+}
+
+// A sheet, opened in scratch space for any.
+fn opened(b: &[u8]) -> Opened
+    ensures { λ r. ⌜ r ≡ openedAfter (sheetCheck (now (b .entry))) (now (b .entry)) ⌝ }
+{
+    let mut scratch = [0i32; 12288];
+    let mut boxes = [0i32; 768];
+    open_into(b, &mut scratch, &mut boxes)
 }
 
 // All checks of a sheet: 20 to 24, then 11 to 16, then 19.
 pub fn sheet_check(b: &[u8]) -> Check
     ensures { λ r. ⌜ r ≡ sheetCheck (now (b .entry)) ⌝ }
 {
-    let mut scratch = [0i32; 12288];
-    open::open(b, &mut scratch)
+    opened(b).check
 }
 
 // Reads a sheet, and hands back its parts.
 pub fn read(b: &[u8]) -> Sheet
     ensures { λ r. ⌜ r ≡ readOf (now (b .entry)) ⌝ }
 {
-    match sheet_check(b) {
-        Check::Passed => accepted(b),
+    let sheet = opened(b);
+    let check = sheet.check;
+    match check {
+        Check::Passed => accepted(b, sheet),
         Check::Failed(number, place) => refused(number, place),
     }
 }
@@ -82,10 +97,12 @@ pub fn load(b: &[u8], out: &mut [i32; 12288]) -> Sheet
     ensures { λ r. ⌜ (r ≡ readOf (now (b .entry)))
         × (now (out .exit) ≡ loadedOf (now (b .entry)) (now (out .entry))) ⌝ }
 {
-    match sheet_check(b) {
+    let sheet = opened(b);
+    let check = sheet.check;
+    match check {
         Check::Passed => {
-            open::decode_vertices(b, open::vertex_count(b), out);
-            accepted(b)
+            decode_vertices(b, sheet.count, out);
+            accepted(b, sheet)
         }
         Check::Failed(number, place) => refused(number, place),
     }

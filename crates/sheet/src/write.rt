@@ -1,15 +1,14 @@
 // Writing a sheet, from any input into any buffer.
-// Here, in order: input_check (23, 22, 10, 28, 11 to 16, 19), second_size, needed_for, write (25 too). A second point
+// Here, in order: input_check (23, 22, 10, 28, 11 to 16, 19), second_size, bytes_needed, write (25 too). A second point
 // of all zero is none, and has no grid.
 ghost use mathlib.Core.Path.{_≡_};
 ghost use Prim.Native.Nat.{_≤_};
 ghost use lib.ListN.{length};
-ghost use Rattle.sheet.specs.Write.{secondSize, neededFor, inputCheck, writeOf, writtenTo};
-use crate::fields;
+ghost use Rattle.sheet.specs.Write.{secondSize, bytesNeeded, inputCheck, writeOf, writtenTo};
 use crate::store;
-use judging::pair;
-use polygon::answer::Answer;
-use polygon::answer::Check;
+use answer::Answer;
+use answer::Check;
+use judging::second::optional_check;
 use polygon::grids::grid_check;
 use polygon::grids::grid_of_second;
 use polygon::grids::is_mixed;
@@ -39,7 +38,7 @@ fn input_check(
         Check::Passed => {}
         Check::Failed(number, place) => return Check::Failed(number, place),
     }
-    pair::optional_check(grid, vertices, known.point, second.point)
+    optional_check(grid, vertices, known.point, second.point)
 }
 
 // The bytes of the second point's field.
@@ -53,9 +52,9 @@ fn second_size(second: Point) -> usize
 }
 
 // The bytes that a sheet takes.
-fn needed_for(name: &[u8], vertices: &[i32], second: Point) -> usize
+fn bytes_needed(name: &[u8], vertices: &[i32], second: Point) -> usize
     requires { ⌜ (length (now name) ≤ 120) × (length (now vertices) ≤ 12288) ⌝ }
-    ensures { λ r. ⌜ r ≡ neededFor (now (name .entry)) (now (vertices .entry)) second ⌝ }
+    ensures { λ r. ⌜ r ≡ bytesNeeded (now (name .entry)) (now (vertices .entry)) second ⌝ }
 {
     32 + name.len() + vertices.len() * 4 + second_size(second)
 }
@@ -90,7 +89,7 @@ pub fn write(
     ) {
         return Answer::Refused(number, place);
     }
-    let needed = needed_for(name, vertices, second.point);
+    let needed = bytes_needed(name, vertices, second.point);
     if buffer.len() < needed {
         return Answer::Refused(25, needed);
     }

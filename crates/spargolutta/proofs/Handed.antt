@@ -7,7 +7,7 @@ use lib.IntN.{ℤ}
 use mir.Syntax.{w32}
 use mir.Val.{SFits, toZ, ofZ}
 use mir.ValLaws.{toZ-ofZ}
-use Rattle.sheet.specs.Judge.{sheetAnswerOf}
+use Rattle.zone.specs.Judge.{sheetAnswerOf}
 use Rattle.spargolutta.specs.Query.{queryOf}
 
 abbrev local : ℤ → ℤ

@@ -3,22 +3,22 @@
 // Only spg_feed_number writes, and nothing is kept between calls.
 ghost use mathlib.Core.Path.{_≡_};
 ghost use lib.ListN.{length};
-ghost use Rattle.polygon.specs.Answer.{numberOf, placeOf, countOf, sumOf};
-ghost use Rattle.sheet.specs.Choose.{sheetChooseOf};
-ghost use Rattle.sheet.specs.Judge.{sheetAnswerOf, sheetLookedOf, sheetFeedOf, sheetFedTo};
+ghost use Rattle.answer.specs.Answer.{numberOf, placeOf, countOf, sumOf};
+ghost use Rattle.zone.specs.Choose.{sheetChooseOf};
+ghost use Rattle.zone.specs.Judge.{sheetAnswerOf, sheetLookedOf, sheetFeedOf, sheetResultsAfter};
 ghost use Rattle.spargolutta.specs.Query.{queryOf};
-use polygon::answer::Answer;
-use polygon::answer::count;
-use polygon::answer::number;
-use polygon::answer::place;
-use polygon::answer::sum;
+use answer::Answer;
+use answer::count;
+use answer::number;
+use answer::place;
+use answer::sum;
 use polygon::vertices::wide;
-use sheet::choose::choose;
-use sheet::feed::feed;
-use sheet::feed::feed_answer;
-use sheet::judge::judge;
-use sheet::judge::looked;
 use sphere::point::Point;
+use zone::choose::choose;
+use zone::feeds::feed;
+use zone::feeds::feed_answer;
+use zone::judge::judge;
+use zone::judge::looked;
 
 // C's three numbers as a point.
 fn query(x: i32, y: i32, z: i32) -> Point
@@ -80,7 +80,7 @@ pub extern "C" fn spg_judge_looked(sheet: &[u8], x: i32, y: i32, z: i32) -> u32
 pub extern "C" fn spg_feed_number(sheet: &[u8], queries: &[u8], results: &mut [u8]) -> u32
     ensures { λ r. ⌜ r ≡ numberOf (sheetFeedOf (now (sheet .entry)) (now (queries .entry))
         (length (now (results .entry)))) ⌝ }
-    ensures { λ _. ⌜ now (results .exit) ≡ sheetFedTo (now (sheet .entry)) (now (queries .entry))
+    ensures { λ _. ⌜ now (results .exit) ≡ sheetResultsAfter (now (sheet .entry)) (now (queries .entry))
         (now (results .entry)) ⌝ }
 {
     number(feed(sheet, queries, results))

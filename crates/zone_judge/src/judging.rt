@@ -6,7 +6,7 @@ ghost use Prim.Native.Nat.{_*_, _≤_, _<_};
 ghost use lib.ListN.{length};
 use crate::input;
 use crate::lines;
-use sheet::feed;
+use zone::feeds;
 
 // Room for the lines of the 4,096 queries of a piece.
 const OUTPUT: usize = 258_048;
@@ -19,7 +19,7 @@ const QUERIES_MOST: u64 = 18_000_000_000_000_000_000;
 fn judge_whole(sheet: &[u8], queries: &[u8], size: usize, results: &mut [u8])
     requires { ⌜ size ≤ length (now queries) ⌝ }
 {
-    feed::feed(sheet, &queries[..size], results);
+    feeds::feed(sheet, &queries[..size], results);
 }
 
 // Puts a line for each of the first n results at the start of `out`. Where the lines end.

@@ -3,10 +3,9 @@
 
 ghost use Prim.Native.Nat.{_+_, _≤_};
 ghost use lib.ListN.{length};
+use answer::Answer;
 use big_endian::read;
 use libc::STDOUT_FILENO;
-use polygon::answer;
-use polygon::answer::Answer;
 
 // The bytes of the longest line: three numbers of at most 20 digits, two spaces and the end of the line.
 pub(crate) const LONGEST: usize = 63;

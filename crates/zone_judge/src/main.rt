@@ -4,13 +4,12 @@
 // A refused sheet gives one line, its number, place and 0, and nothing else. A file that is missing or cannot be read
 // counts as an empty sheet. A cut query at the end gives 20, the number of whole queries before it, and 0. Reading,
 // judging and writing lie apart, in `input`, `judging` and `lines`. Proved: each function is safe and ends. What the
-// library answers is proved in `sheet` and the crates under it.
+// library answers is proved in `zone` and the crates under it.
 mod input;
 mod judging;
 mod lines;
 
-use polygon::answer;
-use polygon::answer::Answer;
+use answer::Answer;
 
 // The whole output of a refused sheet.
 fn print_refusal(refusal: Answer) {

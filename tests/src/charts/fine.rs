@@ -1,6 +1,6 @@
 //! Document 02's P8: charts whose numbers need the fine grid, and what the tag before the vertices does.
 
-use super::{all_give_on, chart};
+use super::{all_give_on, chart, give};
 use crate::compare::Tally;
 use crate::reference::{self, vector};
 use crate::sheet::{field, octant, octant_pair, points_bytes, Grid, Sheet, GRIDS};
@@ -38,6 +38,14 @@ fn f1_to_f3() {
     for (query, turn, float) in [(f1, 2, -4_194_304.0), (f2, -2, 3_145_728.0), (f3, 0, 2_097_152.0)] {
         assert_eq!(reference::turn(vector(a), vector(b), vector(query)), turn);
         assert_eq!(float_turn(a, b, query), float);
+    }
+}
+
+/// A query past the coarse grid's limit is on the fine grid.
+#[test]
+fn past_the_coarse_grid() {
+    for (grid, number) in [(Grid::Coarse, 17), (Grid::Fine, 1)] {
+        give("past the coarse grid", &octant().on(grid).bytes(), [1_048_577, 1, 1], (number, 0, 0));
     }
 }
 

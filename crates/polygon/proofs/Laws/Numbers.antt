@@ -1,106 +1,99 @@
--- The numbers that a check may refuse with, by any property of them. Defined: Numbered. Proved, in order:
--- passed-numbered, failed-numbered, then-numbered, fails-here-numbered, fails-if-numbered, fails-at-numbered,
--- after-numbered (of an answer); polygon-numbered, accept-numbered, judge-numbered, answer-numbered.
-use mathlib.Core.Path.{_≡_, refl, subst}
-use mathlib.Core.Bool.{Bool, true, false, not}
+-- The numbers that the checks of lines 10 to 19 and the verdict may have, by any property of them. Proved, in order:
+-- list-numbered, second-numbered, accept-numbered, pair-numbered, optional-numbered, judge-numbered; parity-numbered,
+-- verdict-numbered, answer-numbered. Of checks of any kind: answer's Laws/Numbers.
+use mathlib.Core.Bool.{Bool, true, false, not, cond}
 use mathlib.Core.List.{List}
-use Prim.Native.Nat.{ℕ, _≤_, _%_}
+use Prim.Native.Nat.{ℕ, _<_, _%_}
 use native.Mathlib.Omega.{arith}
-use lib.Dec.{eqb}
+use lib.Dec.{eqb, lit<}
 use lib.IntN.{ℤ}
+use Rattle.integers.specs.Sign.{signOf, isZero}
 use Rattle.sphere.specs.declared.point.Point.{Point}
-use Rattle.sphere.specs.Point.{isOffGrid}
+use Rattle.sphere.specs.Point.{isNull, isOffGrid}
+use Rattle.sphere.specs.Orientation.{orientationOf}
 use Rattle.sphere.specs.Direction.{isAntipodal}
-use Rattle.polygon.specs.declared.answer.Found.{Found}
-use Rattle.polygon.specs.declared.answer.Found.the-variants.{Nothing, At}
-use Rattle.polygon.specs.declared.answer.Check.{Check}
-use Rattle.polygon.specs.declared.answer.Check.the-variants.{Passed, Failed}
-use Rattle.polygon.specs.declared.answer.Answer.{Answer}
-use Rattle.polygon.specs.Search.{firstFrom}
-use Rattle.polygon.specs.Answer.{numberOf, answerAfter}
-use Rattle.polygon.specs.Checks.{_then_, failsHere, failsIf, failsAt, listCheck, beyondCheck, nullCheck}
-use Rattle.polygon.specs.Checks.{sameCheck}
-use Rattle.polygon.specs.Checks.{antipodalCheck, referenceCheck, circleCheck, queryCheck, farCheck}
-use Rattle.polygon.specs.Checks.{isVertexList, polygonCheck, acceptCheck, judgeCheck}
+use Rattle.answer.specs.declared.Found.{Found}
+use Rattle.answer.specs.declared.Found.the-variants.{Nothing, At}
+use Rattle.answer.specs.declared.Check.{Check}
+use Rattle.polygon.specs.declared.checks.Line.{Line}
+use Rattle.polygon.specs.declared.checks.Line.the-variants.{Beyond, Null, Same, Antipodal}
+use Rattle.answer.specs.declared.Answer.the-variants.{Inside, Outside}
+use Rattle.answer.specs.Search.{firstFrom}
+use Rattle.polygon.specs.Vertices.{vertexCount, startOf, endOf}
+use Rattle.answer.specs.Answer.{numberOf}
+use Rattle.polygon.specs.Checks.{isVertexList, listCheck, referenceCheck, circleCheck, queryCheck, farCheck}
+use Rattle.polygon.specs.Checks.{polygonCheck, acceptCheck, judgeCheck}
+use Rattle.polygon.specs.Lines.{lineNumber, lineCheck, isRefused}
 use Rattle.polygon.specs.Verdict.{boundaryOf, crossingsOf, windingOf, verdictBy, verdictOf, answerOf}
+use Rattle.polygon.specs.Pair.{isSecond, secondCheck, pairCheck, optionalCheck}
+use Rattle.polygon.proofs.Laws.Lines.{line-search}
+use Rattle.answer.proofs.Laws.Numbers.{Numbered, _both_, if-numbered, at-numbered, unless-numbered, after-numbered}
 
--- A refusal by the check has a number with the property.
-pub record Numbered (Is : ℕ → Type 0) (c : Check) : Type 0 where
-  pub each : (number place : ℕ) → c ≡ Failed number place → Is number
+-- ---- lines 10 to 19
+module _ (Is : ℕ → Type 0) (limit : ℕ) (vs : List ℤ) where
+  pub list-numbered : Is 10 → Numbered Is (listCheck vs)
+  unfolding listCheck
+  list-numbered h = if-numbered 10 (not (isVertexList vs)) h
 
-module _ (Is : ℕ → Type 0) where
-  pub passed-numbered : Numbered Is Passed
-  passed-numbered = record { each = λ number place e. absurd (let z : _≡_ {A = ℕ} 0 1 = cc in omega arith) }
+  pub second-numbered : (X Y : Point) → Is 19 → Numbered Is (secondCheck limit vs X Y)
+  unfolding secondCheck
+  second-numbered X Y h = if-numbered 19 (not (isSecond limit vs X Y)) h
 
-  pub failed-numbered : (number place : ℕ) → Is number → Numbered Is (Failed number place)
-  failed-numbered number place h = record { each = λ n p e. subst Is (same n p e) h }
-    where
-      same : (n p : ℕ) → Failed number place ≡ Failed n p → number ≡ n
-      same n p e = cc
+  module _ (list : Numbered Is (listCheck vs)) (h : (n : ℕ) → 10 < n → n < 17 → Is n) (X : Point) where
+    line : (l : Line) → Is (lineNumber l) → Numbered Is (lineCheck l limit vs)
+    line l i =
+        rw (line-search l limit vs) (at-numbered (lineNumber l) (firstFrom (isRefused l limit vs) 0 (vertexCount vs)) i)
 
-  pub then-numbered : (a b : Check) → Numbered Is a → Numbered Is b → Numbered Is (a then b)
-  then-numbered Passed b x y = y
-  then-numbered (Failed number place) b x y = x
+    reference : Numbered Is (referenceCheck limit X)
+    unfolding referenceCheck
+    reference = if-numbered 15 (isOffGrid limit X) (h 15 (lit< tt) (lit< tt))
 
-  pub fails-here-numbered : (number place : ℕ) (bad : Bool) → Is number → Numbered Is (failsHere number place bad)
-  fails-here-numbered number place true h = failed-numbered number place h
-  fails-here-numbered number place false h = passed-numbered
+    circle : Numbered Is (circleCheck vs X)
+    unfolding circleCheck
+    circle =
+        let test : ℕ → Bool = λ i. isZero (signOf (orientationOf (startOf vs i) (endOf vs i) X)) in
+        at-numbered 16 (firstFrom test 0 (vertexCount vs)) (h 16 (lit< tt) (lit< tt))
 
-  pub fails-if-numbered : (number : ℕ) (bad : Bool) → Is number → Numbered Is (failsIf number bad)
-  fails-if-numbered number bad h = fails-here-numbered number 0 bad h
+    pub accept-numbered : Numbered Is (acceptCheck limit vs X)
+    unfolding acceptCheck polygonCheck
+    accept-numbered =
+        (list both line Beyond (h 11 (lit< tt) (lit< tt))
+        both line Null (h 12 (lit< tt) (lit< tt))
+        both line Same (h 13 (lit< tt) (lit< tt))
+        both line Antipodal (h 14 (lit< tt) (lit< tt)))
+        both reference
+        both circle
 
-  pub fails-at-numbered : (number : ℕ) (test : ℕ → Bool) (i k : ℕ) → Is number →
-      Numbered Is (failsAt number (firstFrom test i k))
-  fails-at-numbered number test i k h = go (firstFrom test i k)
-    where
-      go : (f : Found) → Numbered Is (failsAt number f)
-      go Nothing = passed-numbered
-      go (At place) = failed-numbered number place h
+    pub pair-numbered : Is 19 → (Y : Point) → Numbered Is (pairCheck limit vs X Y)
+    unfolding pairCheck
+    pair-numbered h19 Y = accept-numbered both second-numbered X Y h19
 
-  pub after-numbered : (c : Check) (a : Answer) → Numbered Is c → Is (numberOf a) → Is (numberOf (answerAfter c a))
-  after-numbered Passed a x y = y
-  after-numbered (Failed number place) a x y = x .each number place refl
+    pub optional-numbered : Is 19 → (Y : Point) → Numbered Is (optionalCheck limit vs X Y)
+    unfolding optionalCheck
+    optional-numbered h19 Y = accept-numbered both unless-numbered (isNull Y) (second-numbered X Y h19)
 
-  -- ---- lines 10 to 18
-  module _ (limit : ℕ) (vs : List ℤ) (h : (n : ℕ) → 10 ≤ n → n ≤ 16 → Is n) where
-    pub polygon-numbered : Numbered Is (polygonCheck limit vs)
-    unfolding polygonCheck listCheck beyondCheck nullCheck sameCheck antipodalCheck
-    polygon-numbered =
-        then-numbered (listCheck vs) _
-        (fails-if-numbered 10 (not (isVertexList vs)) (h 10 (omega arith) (omega arith)))
-        (then-numbered (beyondCheck limit vs) _ (fails-at-numbered 11 _ _ _ (h 11 (omega arith) (omega arith)))
-        (then-numbered (nullCheck vs) _ (fails-at-numbered 12 _ _ _ (h 12 (omega arith) (omega arith)))
-        (then-numbered (sameCheck vs) (antipodalCheck vs)
-        (fails-at-numbered 13 _ _ _ (h 13 (omega arith) (omega arith)))
-        (fails-at-numbered 14 _ _ _ (h 14 (omega arith) (omega arith))))))
-
-    pub accept-numbered : (X : Point) → Numbered Is (acceptCheck limit vs X)
-    unfolding acceptCheck referenceCheck circleCheck
-    accept-numbered X =
-        then-numbered (polygonCheck limit vs) _ polygon-numbered
-        (then-numbered (referenceCheck limit X) (circleCheck vs X)
-        (fails-if-numbered 15 (isOffGrid limit X) (h 15 (omega arith) (omega arith)))
-        (fails-at-numbered 16 _ _ _ (h 16 (omega arith) (omega arith))))
-
-    pub judge-numbered : Is 17 → Is 18 → (X P : Point) → Numbered Is (judgeCheck limit vs X P)
+    pub judge-numbered : Is 17 → Is 18 → (P : Point) → Numbered Is (judgeCheck limit vs X P)
     unfolding judgeCheck queryCheck farCheck
-    judge-numbered h17 h18 X P =
-        then-numbered (acceptCheck limit vs X) (queryCheck limit P then farCheck X P) (accept-numbered X)
-        (then-numbered (queryCheck limit P) (farCheck X P) (fails-if-numbered 17 (isOffGrid limit P) h17)
-        (fails-if-numbered 18 (isAntipodal X P) h18))
+    judge-numbered h17 h18 P =
+        accept-numbered both if-numbered 17 (isOffGrid limit P) h17 both if-numbered 18 (isAntipodal X P) h18
 
-    -- the verdict's numbers are 1, 2 and 3
-    pub answer-numbered : Is 17 → Is 18 → Is 1 → Is 2 → Is 3 → (X P : Point) → Is (numberOf (answerOf limit vs X P))
-    unfolding answerOf verdictOf
-    answer-numbered h17 h18 h1 h2 h3 X P =
-        after-numbered (judgeCheck limit vs X P) (verdictOf vs X P) (judge-numbered h17 h18 X P)
-        (verdict (boundaryOf vs P) (crossingsOf vs X P) (windingOf vs X P))
-      where
-        parity : (t : Bool) (crossed : ℕ) (sum : ℤ) → eqb (crossed % 2) 0 ≡ t →
-            Is (numberOf (verdictBy Nothing crossed sum))
-        parity true crossed sum e = rw e h1
-        parity false crossed sum e = rw e h2
+-- ---- the verdict: 1, 2 and 3
+module _ (Is : ℕ → Type 0) (h1 : Is 1) (h2 : Is 2) where
+  pub parity-numbered : (even : Bool) (c : ℕ) (s : ℤ) → Is (numberOf (cond even (Inside c s) (Outside c s)))
+  parity-numbered true c s = h1
+  parity-numbered false c s = h2
 
-        verdict : (f : Found) (crossed : ℕ) (sum : ℤ) → Is (numberOf (verdictBy f crossed sum))
-        verdict (At edge) crossed sum = h3
-        verdict Nothing crossed sum = parity (eqb (crossed % 2) 0) crossed sum refl
+  pub verdict-numbered : Is 3 → (f : Found) (c : ℕ) (s : ℤ) → Is (numberOf (verdictBy f c s))
+  verdict-numbered h3 (At edge) c s = h3
+  verdict-numbered h3 Nothing c s = parity-numbered (eqb (c % 2) 0) c s
+
+-- The answer to any input: 1 to 3, or 10 to 18.
+pub answer-numbered : (Is : ℕ → Type 0) (limit : ℕ) (vs : List ℤ) → ((n : ℕ) → 0 < n → n < 19 → Is n) →
+    (X P : Point) → Is (numberOf (answerOf limit vs X P))
+unfolding answerOf verdictOf
+answer-numbered Is limit vs h X P =
+    after-numbered (judgeCheck limit vs X P) (verdictOf vs X P)
+    (judge-numbered Is limit vs (list-numbered Is limit vs (h 10 (lit< tt) (lit< tt)))
+    (λ n l m. h n (omega arith) (omega arith)) X (h 17 (lit< tt) (lit< tt)) (h 18 (lit< tt) (lit< tt)) P)
+    (verdict-numbered Is (h 1 (lit< tt) (lit< tt)) (h 2 (lit< tt) (lit< tt)) (h 3 (lit< tt) (lit< tt))
+    (boundaryOf vs P) (crossingsOf vs X P) (windingOf vs X P))

@@ -1,28 +1,27 @@
 -- What an accepted list and known point are known to be: the checks 10, 11 and 15, in numbers. Proved, in order:
--- whole-passed, list-check, accepted-list, accepted-known, accepted-number; fits-word, within-word (such numbers fit 32
--- bits); null-none; optional-check, optional-small (a second point, or none).
-use mathlib.Core.Path.{_≡_, refl, sym}
-use mathlib.Core.Bool.{Bool, true, false, true≢false}
+-- whole-passed, list-check, accepted-list, accepted-number; fits-word, within-word (such numbers fit 32 bits);
+-- optional-small (a second point, or none).
+use mathlib.Core.Path.{_≡_, refl}
+use mathlib.Core.Bool.{Bool, true, false}
 use mathlib.Core.List.{List}
 use Prim.Native.Nat.{ℕ, zero, suc, _+_, _*_, _/_, _%_, _≤_, _<_, zero-le}
 use native.Mathlib.Omega.{arith}
-use borrow.Author.Tests.{ltb-true, ltb-false, le-leb, eq-eqb, leb-true, eqb-true, not-false}
+use borrow.Author.Tests.{ltb-true, ltb-false, le-leb, eq-eqb, eqb-true}
 use lib.Dec.{ltb}
-use lib.IntN.{ℤ, pos, negsuc}
+use lib.IntN.{ℤ, pos}
 use lib.ListN.{length, getD, List·getD-eq-default}
-use Rattle.integers.specs.Sign.{signOf, isZero}
 use Rattle.sphere.specs.declared.point.Point.{Point}
 use Rattle.sphere.specs.declared.point.Grid.{Grid}
 use Rattle.sphere.specs.declared.point.Grid.the-variants.{Coarse, Fine}
 use Rattle.sphere.specs.Point.{limitOf, Fits, Within, isNull}
-use Rattle.polygon.specs.declared.answer.Check.the-variants.{Passed}
+use Rattle.sphere.proofs.Laws.Orientation.{null→origin}
+use Rattle.answer.specs.declared.Check.the-variants.{Passed}
 use Rattle.polygon.specs.Vertices.{vertexCount, vertexAt}
-use Rattle.polygon.specs.Checks.{listCheck, polygonCheck, acceptCheck}
-use Rattle.polygon.specs.Pair.{secondCheck, optionalCheck}
-use Rattle.polygon.proofs.Laws.Checks.{here-passed, then-passed, accept-passed}
+use Rattle.polygon.specs.Checks.{listCheck, acceptCheck}
+use Rattle.polygon.specs.Pair.{optionalCheck}
+use Rattle.answer.proofs.Laws.Chain.{both-true}
+use Rattle.polygon.proofs.Laws.Checks.{list-holds, list-passed, accept-polygon, polygon-first, accept-passed}
 use Rattle.polygon.proofs.Laws.Pair.{optional-second}
-use Rattle.batch.specs.Feed.{noSecond}
-use Rattle.sheet.proofs.Laws.Checks.{and-true}
 
 -- A list that line 10 lets through.
 pub record Whole (vs : List ℤ) : Type 0 where
@@ -38,22 +37,16 @@ whole-passed vs l =
 
 module _ (limit : ℕ) (vs : List ℤ) (X : Point) (ok : acceptCheck limit vs X ≡ Passed) where
   pub list-check : listCheck vs ≡ Passed
-  unfolding acceptCheck polygonCheck
-  list-check = then-passed (listCheck vs) _ (then-passed (polygonCheck limit vs) _ ok .0) .0
+  list-check = polygon-first limit vs (accept-polygon limit vs X ok) .0
 
   pub accepted-list : Whole vs
-  unfolding listCheck
   accepted-list =
-      let one = and-true _ _ (not-false _ (here-passed 10 0 _ list-check)) in
-      let two = and-true _ _ (one .1) in
+      let listed = list-passed list-check in
       record {
-        threes = eqb-true (length vs % 3) 0 (one .0);
-        least = leb-true 3 (length vs / 3) (two .0);
-        most = leb-true (length vs / 3) 4096 (two .1);
+        threes = eqb-true (length vs % 3) 0 (both-true _ _ (list-holds vs list-check) .0);
+        least = listed .least;
+        most = listed .most;
       }
-
-  pub accepted-known : Within limit X
-  accepted-known = accept-passed ok .known
 
   third-fits : (i r : ℕ) → r < 3 → i < vertexCount vs → Fits limit (getD vs (i * 3 + r) (pos 0))
   unfolding vertexAt
@@ -83,35 +76,14 @@ pub within-word : (g : Grid) {p : Point} → Within (limitOf g) p → Within 214
 within-word g w =
     record { at-x = fits-word g (w .at-x); at-y = fits-word g (w .at-y); at-z = fits-word g (w .at-z) }
 
--- ---- all zero is no point, and is not accepted
-zero-is : (k : ℤ) → isZero (signOf k) ≡ true → k ≡ pos 0
-zero-is (pos zero) e = refl
-zero-is (pos (suc n)) e = absurd (true≢false (sym e))
-zero-is (negsuc n) e = absurd (true≢false (sym e))
-
-pub null-none : (p : Point) → isNull p ≡ true → p ≡ noSecond
-unfolding isNull
-null-none p e =
-    let one = and-true _ _ e in
-    let two = and-true _ _ (one .1) in
-    λ i. record {
-      x = zero-is (p .x) (one .0) i;
-      y = zero-is (p .y) (two .0) i;
-      z = zero-is (p .z) (two .1) i;
-    }
-
 nought : Fits 2147483647 (pos 0)
 nought = record { within = zero-le }
 
 -- ---- a second point, or none
 module _ (g : Grid) (vs : List ℤ) (X Y : Point) (ok : optionalCheck (limitOf g) vs X Y ≡ Passed) where
-  pub optional-check : isNull Y ≡ false → secondCheck (limitOf g) vs X Y ≡ Passed
-  unfolding optionalCheck
-  optional-check some = rw some at (then-passed (acceptCheck (limitOf g) vs X) _ ok .1)
-
   pub optional-small : Within 2147483647 Y
   optional-small = go (isNull Y) refl
     where
       go : (none : Bool) → isNull Y ≡ none → Within 2147483647 Y
-      go true e = rw (null-none Y e) (record { at-x = nought; at-y = nought; at-z = nought })
-      go false e = within-word g (accepted-known (limitOf g) vs Y (optional-second (limitOf g) vs X Y ok e .accepted))
+      go true e = rw (null→origin Y (rw e tt)) (record { at-x = nought; at-y = nought; at-z = nought })
+      go false e = within-word g (accept-passed (optional-second (limitOf g) vs X Y ok e .accepted) .known)

@@ -12,10 +12,10 @@ use lib.Seq.{drop-cons, drop-drop, drop-at}
 use Rattle.big_endian.specs.Bytes.{byteAt, shortAt, shortBytes, AreBytes}
 use Rattle.big_endian.proofs.Laws.Written.{first-written, short-written}
 use Rattle.big_endian.proofs.Laws.Kept.{short-kept}
-use Rattle.polygon.specs.declared.answer.Check.the-variants.{Passed}
-use Rattle.sheet.specs.Fields.{fieldEnd, fieldCheck}
+use Rattle.answer.specs.declared.Check.the-variants.{Passed}
+use Rattle.fields.specs.Fields.{fieldEnd, fieldCheck}
 use Rattle.sheet.specs.Write.{fieldBytes}
-use Rattle.sheet.proofs.Laws.Fields.{field-passed}
+use Rattle.fields.proofs.Laws.Fields.{field-passed}
 use Rattle.sheet.proofs.Laws.Stores.{fieldBytes-length}
 
 -- A field that stands at `at`, with `rest` after it.

@@ -10,13 +10,13 @@ use Rattle.big_endian.specs.Bytes.{shortAt, wordBytes, intsBytes, numbersOf, po
 use Rattle.big_endian.proofs.Laws.Rows.{intsAt-length}
 use Rattle.big_endian.proofs.Laws.Stores.{intsBytes-length}
 use Rattle.big_endian.proofs.Laws.Kept.{word-kept, ints-kept, point-kept}
-use Rattle.polygon.specs.declared.answer.Check.the-variants.{Passed}
-use Rattle.sheet.specs.Fields.{charsetStart, nameStart, knownStart, verticesStart, gridOf, tagOf, secondStart}
-use Rattle.sheet.specs.Fields.{fiveFields}
+use Rattle.answer.specs.declared.Check.the-variants.{Passed}
+use Rattle.fields.specs.Fields.{charsetStart, nameStart, knownStart, verticesStart, gridOf, tagOf, secondStart}
+use Rattle.fields.specs.Fields.{fiveFields}
 use Rattle.sheet.specs.Sheet.{zoneOf, charsetOf, nameAt, nameLength, nameOf, knownOf, vertexCountOf, verticesOf}
 use Rattle.sheet.specs.Sheet.{secondOf}
 use Rattle.sheet.specs.Write.{fieldBytes, secondBytes, sheetBytes}
-use Rattle.sheet.proofs.Laws.Fields.{passed-field, passed-fields, passed-spans, allowed-bounds, charset-field}
+use Rattle.fields.proofs.Laws.Fields.{passed-field, passed-fields, passed-spans, allowed-bounds, charset-field}
 use Rattle.sheet.proofs.Laws.Stores.{wordBytes-length}
 use Rattle.sheet.proofs.Laws.Bodies.{field-kept}
 

@@ -1,7 +1,7 @@
 -- What reading hands back and leaves, case by case. Proved, in order: fields-sound, fields-five, plain-passed,
--- plain-five, plain-unsound, plain-polygon; carried-none, carried-second; sheet-plain, sheet-fields, sheet-five,
--- sheet-accepted, sheet-optional, sheet-failed, sheet-carried; read-refused, read-accepted; loaded-by, decoded-by,
--- loaded-row, loaded-room, opened-row, opened-room.
+-- plain-five, plain-unsound, plain-polygon; second-absent, second-present; sheet-plain, sheet-fields, sheet-five,
+-- sheet-accepted, sheet-optional, sheet-failed, sheet-second; read-refused, read-accepted; loaded-by, decoded-by,
+-- loaded-row, loaded-room; opened-check, opened-passed, opened-refused, opened-row, opened-room.
 use mathlib.Core.Path.{_≡_, refl, sym, ap, ap₂, _∙_}
 use mathlib.Core.Bool.{Bool, true, false, cond}
 use mathlib.Core.List.{List, _++_}
@@ -13,19 +13,21 @@ use lib.Seq.{take-at}
 use Rattle.sphere.specs.Point.{limitOf, isNull}
 use Rattle.big_endian.specs.Bytes.{pointAt}
 use Rattle.big_endian.proofs.Laws.Rows.{intsAt-length}
-use Rattle.polygon.specs.declared.answer.Check.{Check}
-use Rattle.polygon.specs.declared.answer.Check.the-variants.{Passed, Failed}
-use Rattle.polygon.specs.Checks.{_then_, acceptCheck}
-use Rattle.polygon.specs.Pair.{secondCheck, optionalCheck}
-use Rattle.polygon.proofs.Laws.Checks.{then-passed}
-use Rattle.batch.specs.Feed.{noSecond}
-use Rattle.batch.proofs.Laws.From.{none-null}
-use Rattle.sheet.specs.Fields.{verticesStart, gridOf, secondStart, hasSecond, fiveFields, sheetFields, restCheck}
-use Rattle.sheet.specs.Fields.{fieldsCheck}
-use Rattle.sheet.specs.Sheet.{knownOf, vertexCountOf, verticesOf, secondOf, plainCheck, carriedCheck, sheetCheck}
-use Rattle.sheet.specs.Sheet.{refusedSheet, readAfter, readOf, loadedAfter, loadedOf, decodedOf}
-use Rattle.sheet.proofs.Laws.Checks.{then-failed, then-next}
-use Rattle.sheet.proofs.Laws.Fields.{five-passed}
+use Rattle.answer.specs.declared.Check.{Check}
+use Rattle.answer.specs.declared.Check.the-variants.{Passed, Failed}
+use Rattle.answer.specs.Chain.{_then_}
+use Rattle.polygon.specs.Checks.{acceptCheck}
+use Rattle.polygon.specs.Pair.{secondCheck, optionalCheck, noSecond}
+use Rattle.answer.proofs.Laws.Chain.{then-passed}
+use Rattle.judging.proofs.Laws.From.{none-null}
+use Rattle.fields.specs.Fields.{verticesStart, gridOf, secondStart, hasSecond, fiveFields, sheetFields, restCheck}
+use Rattle.fields.specs.Fields.{fieldsCheck}
+use Rattle.sheet.specs.Sheet.{knownOf, vertexCountOf, verticesOf, secondOf, plainCheck, sheetSecondCheck}
+use Rattle.sheet.specs.Sheet.{sheetCheck}
+use Rattle.sheet.specs.Sheet.{refusedSheet, readAfter, readOf, loadedAfter, loadedOf}
+use Rattle.sheet.specs.Open.{refusedOpen, openedAfter, decodedOf}
+use Rattle.sheet.specs.declared.open.Opened.{Opened}
+use Rattle.fields.proofs.Laws.Fields.{five-passed}
 
 module _ (b : List ℕ) where
   pub fields-sound : fieldsCheck b ≡ Passed → sheetFields b ≡ Passed
@@ -47,37 +49,37 @@ module _ (b : List ℕ) where
 
   pub plain-unsound : {n p : ℕ} → fieldsCheck b ≡ Failed n p → plainCheck b ≡ Failed n p
   unfolding plainCheck
-  plain-unsound e = then-failed _ e
+  plain-unsound e = rw e
 
   pub plain-polygon :
       fieldsCheck b ≡ Passed → plainCheck b ≡ acceptCheck (limitOf (gridOf b)) (verticesOf b) (knownOf b)
   unfolding plainCheck
-  plain-polygon e = then-next _ e
+  plain-polygon e = rw e
 
   -- ---- the second point
-  pub carried-none : hasSecond b ≡ false → (secondOf b ≡ noSecond) × (carriedCheck b ≡ Passed)
-  unfolding secondOf carriedCheck
-  carried-none e = (rw e, rw e)
+  pub second-absent : hasSecond b ≡ false → (secondOf b ≡ noSecond) × (sheetSecondCheck b ≡ Passed)
+  unfolding secondOf sheetSecondCheck
+  second-absent e = (rw e, rw e)
 
-  pub carried-second : hasSecond b ≡ true →
+  pub second-present : hasSecond b ≡ true →
       (secondOf b ≡ pointAt b (secondStart b + 3))
-      × (carriedCheck b ≡ secondCheck (limitOf (gridOf b)) (verticesOf b) (knownOf b) (secondOf b))
-  unfolding secondOf carriedCheck
-  carried-second e = (rw e, rw e)
+      × (sheetSecondCheck b ≡ secondCheck (limitOf (gridOf b)) (verticesOf b) (knownOf b) (secondOf b))
+  unfolding secondOf sheetSecondCheck
+  second-present e = (rw e, rw e)
 
   -- ---- with it
   pub sheet-failed : {n p : ℕ} → plainCheck b ≡ Failed n p → sheetCheck b ≡ Failed n p
   unfolding sheetCheck
-  sheet-failed e = then-failed _ e
+  sheet-failed e = rw e
 
-  pub sheet-carried : plainCheck b ≡ Passed → sheetCheck b ≡ carriedCheck b
+  pub sheet-second : plainCheck b ≡ Passed → sheetCheck b ≡ sheetSecondCheck b
   unfolding sheetCheck
-  sheet-carried e = then-next _ e
+  sheet-second e = rw e
 
   module _ (e : sheetCheck b ≡ Passed) where
     pub sheet-plain : plainCheck b ≡ Passed
     unfolding sheetCheck
-    sheet-plain = then-passed (plainCheck b) (carriedCheck b) e .0
+    sheet-plain = then-passed (plainCheck b) (sheetSecondCheck b) e .0
 
     pub sheet-fields : fieldsCheck b ≡ Passed
     sheet-fields = plain-passed sheet-plain .0
@@ -94,19 +96,19 @@ module _ (b : List ℕ) where
     -- Its points are accepted, one or both.
     pub sheet-optional : optionalCheck (limitOf (gridOf b)) (verticesOf b) (knownOf b) (secondOf b) ≡ Passed
     unfolding sheetCheck optionalCheck
-    sheet-optional = go (hasSecond b) refl (then-passed (plainCheck b) (carriedCheck b) e .1)
+    sheet-optional = go (hasSecond b) refl (then-passed (plainCheck b) (sheetSecondCheck b) e .1)
       where
         either : (none : Bool) {c : Check} → c ≡ Passed → cond none Passed c ≡ Passed
         either true p = refl
         either false p = p
 
-        go : (t : Bool) → hasSecond b ≡ t → carriedCheck b ≡ Passed →
+        go : (t : Bool) → hasSecond b ≡ t → sheetSecondCheck b ≡ Passed →
             (acceptCheck (limitOf (gridOf b)) (verticesOf b) (knownOf b)
             then cond (isNull (secondOf b)) Passed
             (secondCheck (limitOf (gridOf b)) (verticesOf b) (knownOf b) (secondOf b)))
             ≡ Passed
-        go true has ok = rw sheet-accepted (either (isNull (secondOf b)) (sym (carried-second has .1) ∙ ok))
-        go false has ok = rw (sheet-accepted, carried-none has .0, none-null)
+        go true has ok = rw sheet-accepted (either (isNull (secondOf b)) (sym (second-present has .1) ∙ ok))
+        go false has ok = rw (sheet-accepted, second-absent has .0, none-null)
 
   pub read-refused : {n p : ℕ} → sheetCheck b ≡ Failed n p → readOf b ≡ refusedSheet n p
   unfolding readOf
@@ -134,6 +136,18 @@ module _ (b : List ℕ) where
       let all = length-append (verticesOf b) rest in
       let front = intsAt-length b (verticesStart b + 3) (vertexCountOf b * 3) in
       omega arith
+
+  -- What the checks said, by what opening handed out.
+  pub opened-check : (c : Check) {o : Opened} → o ≡ openedAfter c b → o .check ≡ c
+  opened-check Passed e = ap (λ o. o .check) e
+  opened-check (Failed n p) e = ap (λ o. o .check) e
+
+  pub opened-passed : {c : Check} {o : Opened} → o ≡ openedAfter c b → c ≡ Passed → o ≡ openedAfter Passed b
+  opened-passed e p = e ∙ ap (λ (c : Check). openedAfter c b) p
+
+  pub opened-refused : {c : Check} {o : Opened} {n p : ℕ} → o ≡ refusedOpen n p → c ≡ Failed n p →
+      o ≡ openedAfter c b
+  opened-refused e p = e ∙ sym (ap (λ (c : Check). openedAfter c b) p)
 
   -- ---- the scratch space after the checks of a sheet that passed
   module _ (scratch : List ℤ) {left : List ℤ} (e : fieldsCheck b ≡ Passed) (d : left ≡ decodedOf b scratch) {n : ℕ}

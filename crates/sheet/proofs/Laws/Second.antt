@@ -10,19 +10,19 @@ use lib.ListN.{length, drop}
 use lib.Seq.{drop-length}
 use Rattle.sphere.specs.declared.point.Point.{Point}
 use Rattle.sphere.specs.Point.{Within, isNull}
+use Rattle.sphere.proofs.Laws.Orientation.{null→origin}
 use Rattle.big_endian.specs.Bytes.{numbersOf, pointBytes, AreBytes}
 use Rattle.big_endian.proofs.Laws.Stores.{intsBytes-length}
 use Rattle.big_endian.proofs.Laws.Written.{first-written, point-written}
 use Rattle.big_endian.proofs.Laws.Kept.{point-kept}
-use Rattle.polygon.specs.declared.answer.Check.the-variants.{Passed}
-use Rattle.batch.proofs.Laws.From.{none-null}
-use Rattle.sheet.specs.Fields.{isAllowed, fieldCheck, secondStart, hasSecond, sheetEnd, secondField, sheetFields}
+use Rattle.answer.specs.declared.Check.the-variants.{Passed}
+use Rattle.judging.proofs.Laws.From.{none-null}
+use Rattle.fields.specs.Fields.{isAllowed, fieldCheck, secondStart, hasSecond, sheetEnd, secondField, sheetFields}
 use Rattle.sheet.specs.Sheet.{secondOf}
 use Rattle.sheet.specs.Write.{fieldBytes, secondBytes, secondSize}
-use Rattle.sheet.proofs.Laws.Fields.{allowed-bounds, second-passed, second-body, end-plain, end-carried}
-use Rattle.sheet.proofs.Laws.Accepted.{null-none}
+use Rattle.fields.proofs.Laws.Fields.{allowed-bounds, second-passed, second-body, end-absent, end-present}
 use Rattle.sheet.proofs.Laws.Bodies.{tag-written, body-written, field-written, field-kept}
-use Rattle.sheet.proofs.Laws.Reads.{carried-none, carried-second}
+use Rattle.sheet.proofs.Laws.Reads.{second-absent, second-present}
 
 -- ---- a second point that was written, or none
 module _ (second : Point) (b : List ℕ) (stands : drop (secondStart b) b ≡ secondBytes second) where
@@ -48,7 +48,7 @@ module _ (second : Point) (b : List ℕ) (stands : drop (secondStart b) b ≡ se
 
     point-back : Within 2147483647 second → secondOf b ≡ second
     point-back w =
-        carried-second b some-written .0
+        second-present b some-written .0
         ∙ point-written b (secondStart b + 3) second [] w
         (body-written b (secondStart b) 6 (pointBytes second) [] field-stands)
 
@@ -65,7 +65,7 @@ module _ (second : Point) (b : List ℕ) (stands : drop (secondStart b) b ≡ se
   second-written w = go (isNull second) refl
     where
       go : (none : Bool) → isNull second ≡ none → secondOf b ≡ second
-      go true e = carried-none b (none-written e) .0 ∙ sym (null-none second e)
+      go true e = second-absent b (none-written e) .0 ∙ sym (null→origin second (rw e tt))
       go false e = point-back e w
 
   pub end-second : sheetEnd b ≡ secondStart b + secondSize second
@@ -73,8 +73,8 @@ module _ (second : Point) (b : List ℕ) (stands : drop (secondStart b) b ≡ se
   end-second = go (isNull second) refl
     where
       go : (none : Bool) → isNull second ≡ none → sheetEnd b ≡ secondStart b + cond none 0 15
-      go true e = end-plain b (none-written e) ∙ omega arith
-      go false e = end-carried b (some-written e)
+      go true e = end-absent b (none-written e) ∙ omega arith
+      go false e = end-present b (some-written e)
 
 -- ---- a second point that was read, or none
 module _ (b : List ℕ) (sound : sheetFields b ≡ Passed) (ends : length b ≡ sheetEnd b)
@@ -84,8 +84,8 @@ module _ (b : List ℕ) (sound : sheetFields b ≡ Passed) (ends : length b ≡ 
   size-kept = go (hasSecond b) refl
     where
       go : (t : Bool) → hasSecond b ≡ t → secondStart b + cond (isNull (secondOf b)) 0 15 ≡ length b
-      go true has = rw (some has) (omega (arith, ends, end-carried b has))
-      go false has = rw (carried-none b has .0, none-null) (omega (arith, ends, end-plain b has))
+      go true has = rw (some has) (omega (arith, ends, end-present b has))
+      go false has = rw (second-absent b has .0, none-null) (omega (arith, ends, end-absent b has))
 
   module _ (are : AreBytes b) where
     sixth-kept : hasSecond b ≡ true → drop (secondStart b) b ≡ fieldBytes 6 (pointBytes (secondOf b))
@@ -94,10 +94,10 @@ module _ (b : List ℕ) (sound : sheetFields b ≡ Passed) (ends : length b ≡ 
         let a = allowed-bounds 12 12 1 _ (f .allowed) in
         let at = secondStart b in
         let size = intsBytes-length (numbersOf (secondOf b)) in
-        let e : at + 3 + 12 ≡ length b = omega (arith, ends, end-carried b has) in
+        let e : at + 3 + 12 ≡ length b = omega (arith, ends, end-present b has) in
         let h = second-body b sound has in
         let body = point-kept b are (at + 3) (omega arith) in
-        let here = rw (sym (carried-second b has .0)) at body in
+        let here = rw (sym (second-present b has .0)) at body in
         field-kept b are at 6 (pointBytes (secondOf b)) [] (f .head) (f .tagged) (omega arith)
         (here ∙ ap (λ (l : List ℕ). pointBytes (secondOf b) ++ l) (ap (λ (k : ℕ). drop k b) e ∙ drop-length b))
         ∙ append-nil (fieldBytes 6 (pointBytes (secondOf b)))
@@ -110,5 +110,5 @@ module _ (b : List ℕ) (sound : sheetFields b ≡ Passed) (ends : length b ≡ 
             drop (secondStart b) b ≡ cond (isNull (secondOf b)) [] (fieldBytes 6 (pointBytes (secondOf b)))
         go true has = rw (some has) (sixth-kept has)
         go false has =
-            let e : secondStart b ≡ length b = sym (ends ∙ end-plain b has) in
-            rw (carried-none b has .0, none-null) (ap (λ (k : ℕ). drop k b) e ∙ drop-length b)
+            let e : secondStart b ≡ length b = sym (ends ∙ end-absent b has) in
+            rw (second-absent b has .0, none-null) (ap (λ (k : ℕ). drop k b) e ∙ drop-length b)

@@ -13,8 +13,8 @@ use Rattle.sphere.specs.declared.point.Grid.{Grid}
 use Rattle.sphere.specs.Point.{isNull}
 use Rattle.big_endian.specs.Bytes.{shortBytes, wordBytes, intsBytes, numbersOf, pointBytes}
 use Rattle.big_endian.proofs.Laws.Stores.{stored-on, intsBytes-length}
-use Rattle.sheet.specs.Fields.{tagOf}
-use Rattle.sheet.specs.Write.{fieldBytes, secondBytes, secondSize, sheetBytes, neededFor}
+use Rattle.fields.specs.Fields.{tagOf}
+use Rattle.sheet.specs.Write.{fieldBytes, secondBytes, secondSize, sheetBytes, bytesNeeded}
 
 -- The head, then the body right behind it.
 pub field-stored :
@@ -71,7 +71,7 @@ module _ (zone charset : ℕ) (name : List ℕ) (known : Point) (g : Grid) (vert
       ∙ stored-on l 0 7 f1 (f2 ++ (f3 ++ (f4 ++ (f5 ++ f6)))) (omega arith)
 
   pub sheetBytes-length : length (sheetBytes zone charset name known g vertices second)
-      ≡ neededFor name vertices second
+      ≡ bytesNeeded name vertices second
   unfolding sheetBytes
   sheetBytes-length =
       let w = wordBytes-length zone in

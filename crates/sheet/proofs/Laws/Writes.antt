@@ -13,19 +13,18 @@ use lib.Seq.{sets, sets-eq}
 use Rattle.sphere.specs.declared.point.Grid.{Grid}
 use Rattle.sphere.specs.declared.point.GridPoint.{GridPoint}
 use Rattle.sphere.specs.Point.{limitOf}
-use Rattle.polygon.specs.declared.answer.Answer.{Answer}
-use Rattle.polygon.specs.declared.answer.Answer.the-variants.{Done, Refused}
-use Rattle.polygon.specs.declared.answer.Check.the-variants.{Passed, Failed}
-use Rattle.polygon.specs.Checks.{acceptCheck}
+use Rattle.answer.specs.declared.Answer.{Answer}
+use Rattle.answer.specs.declared.Answer.the-variants.{Done, Refused}
+use Rattle.answer.specs.declared.Check.the-variants.{Passed, Failed}
 use Rattle.polygon.specs.Pair.{optionalCheck}
 use Rattle.polygon.specs.Grids.{isMixed, gridCheck, gridOfSecond}
-use Rattle.polygon.proofs.Laws.Checks.{here-passed, then-passed}
+use Rattle.answer.proofs.Laws.Chain.{here-passed, then-passed, both-true}
+use Rattle.polygon.proofs.Laws.Checks.{accept-passed}
 use Rattle.polygon.proofs.Laws.Pair.{optional-first}
-use Rattle.sheet.specs.Fields.{isCharset}
-use Rattle.sheet.specs.Write.{sheetBytes, neededFor, Storable, inputCheck, writeCheck, writeOf, writtenTo}
-use Rattle.sheet.proofs.Laws.Checks.{and-true, then-failed, then-next}
-use Rattle.sheet.proofs.Laws.Fields.{allowed-bounds}
-use Rattle.sheet.proofs.Laws.Accepted.{accepted-list, accepted-known, within-word, optional-small}
+use Rattle.fields.specs.Fields.{isCharset}
+use Rattle.sheet.specs.Write.{sheetBytes, bytesNeeded, Storable, inputCheck, writeCheck, writeOf, writtenTo}
+use Rattle.fields.proofs.Laws.Fields.{allowed-bounds}
+use Rattle.sheet.proofs.Laws.Accepted.{accepted-list, within-word, optional-small}
 use Rattle.sheet.proofs.Laws.Written.{Writable}
 use Rattle.sheet.proofs.Laws.Stores.{sheetBytes-length}
 
@@ -46,15 +45,12 @@ module _ (charset : ℕ) (name : List ℕ) (known : GridPoint) (g : Grid) (verti
         paired = three .1;
       }
 
-  known-accepted : optionalCheck (limitOf g) vertices (known .point) (second .point) ≡ Passed →
-      acceptCheck (limitOf g) vertices (known .point) ≡ Passed
-  known-accepted e = optional-first (limitOf g) vertices (known .point) (second .point) e
-
   module _ (ok : inputCheck charset name known g vertices second ≡ Passed) where
     pub input-sizes : (length name ≤ 120) × (length vertices ≤ 12288)
     input-sizes =
         let w = passed-writable 0 (omega arith) ok in
-        let l = accepted-list (limitOf g) vertices (known .point) (known-accepted (w .paired)) in
+        let accepted = optional-first (limitOf g) vertices (known .point) (second .point) (w .paired) in
+        let l = accepted-list (limitOf g) vertices (known .point) accepted in
         let n = allowed-bounds 1 120 1 (length name) (w .named) in
         (omega arith, omega arith)
 
@@ -62,17 +58,18 @@ module _ (charset : ℕ) (name : List ℕ) (known : GridPoint) (g : Grid) (verti
     unfolding isCharset
     charset-small =
         let w = passed-writable 0 (omega arith) ok in
-        let h = leb-true charset 3 (and-true (leb 1 charset) (leb charset 3) (w .coded) .1) in
+        let h = leb-true charset 3 (both-true (leb 1 charset) (leb charset 3) (w .coded) .1) in
         omega arith
 
-    pub input-storable : (room : ℕ) → neededFor name vertices (second .point) ≤ room →
+    pub input-storable : (room : ℕ) → bytesNeeded name vertices (second .point) ≤ room →
         Storable charset name (known .point) vertices (second .point) room
     input-storable room h =
         let w = passed-writable 0 (omega arith) ok in
+        let accepted = optional-first (limitOf g) vertices (known .point) (second .point) (w .paired) in
         record {
           charset-small = charset-small;
           name-short = input-sizes .0;
-          known-small = within-word g (accepted-known (limitOf g) vertices (known .point) (known-accepted (w .paired)));
+          known-small = within-word g (accept-passed accepted .known);
           row-short = input-sizes .1;
           second-small = optional-small g vertices (known .point) (second .point) (w .paired);
           enough = h;
@@ -94,25 +91,25 @@ module _ (charset : ℕ) (name : List ℕ) (known : GridPoint) (g : Grid) (verti
     pub write-refused :
         {n p : ℕ} → inputCheck charset name known g vertices second ≡ Failed n p → Ends (Refused n p) buffer
     unfolding writeCheck
-    write-refused e = failed-ends (then-failed _ e)
+    write-refused e = failed-ends (rw e)
 
     module _ (ok : inputCheck charset name known g vertices second ≡ Passed) where
       pub write-short :
-          length buffer < neededFor name vertices (second .point) →
-          Ends (Refused 25 (neededFor name vertices (second .point))) buffer
+          length buffer < bytesNeeded name vertices (second .point) →
+          Ends (Refused 25 (bytesNeeded name vertices (second .point))) buffer
       unfolding writeCheck
       write-short h =
-          failed-ends (then-next _ ok ∙ rw (lt-ltb (length buffer) (neededFor name vertices (second .point)) h))
+          failed-ends (rw (ok, lt-ltb (length buffer) (bytesNeeded name vertices (second .point)) h))
 
       enough-passed :
-          neededFor name vertices (second .point) ≤ length buffer →
+          bytesNeeded name vertices (second .point) ≤ length buffer →
           writeCheck charset name known g vertices second (length buffer) ≡ Passed
       unfolding writeCheck
-      enough-passed h = then-next _ ok ∙ rw (le-ltb (length buffer) (neededFor name vertices (second .point)) h)
+      enough-passed h = rw (ok, le-ltb (length buffer) (bytesNeeded name vertices (second .point)) h)
 
       pub write-done :
-          neededFor name vertices (second .point) ≤ length buffer →
-          Ends (Done (neededFor name vertices (second .point)))
+          bytesNeeded name vertices (second .point) ≤ length buffer →
+          Ends (Done (bytesNeeded name vertices (second .point)))
           (sets buffer 0 (sheetBytes zone charset name (known .point) g vertices (second .point)))
       unfolding writeOf writtenTo
       write-done h =

@@ -18,25 +18,24 @@ use Rattle.sphere.specs.Point.{limitOf, Within, isNull}
 use Rattle.big_endian.specs.Bytes.{shortAt, wordBytes, intsBytes, numbersOf, pointBytes}
 use Rattle.big_endian.proofs.Laws.Written.{first-written, word-written, ints-written, point-written}
 use Rattle.big_endian.proofs.Laws.Stores.{intsBytes-length}
-use Rattle.polygon.specs.declared.answer.Check.the-variants.{Passed}
+use Rattle.answer.specs.declared.Check.the-variants.{Passed}
 use Rattle.polygon.specs.Vertices.{vertexCount}
 use Rattle.polygon.specs.Checks.{acceptCheck}
 use Rattle.polygon.specs.Pair.{optionalCheck}
-use Rattle.polygon.proofs.Laws.Pair.{optional-first}
-use Rattle.sheet.specs.Fields.{isAllowed, isCharset, fieldEnd, charsetStart, nameStart, knownStart, verticesStart}
-use Rattle.sheet.specs.Fields.{gridAt, gridOf, tagOf, secondStart, sheetEnd, zoneCheck, charsetCheck, knownCheck}
-use Rattle.sheet.specs.Fields.{verticesCheck, fiveFields, sheetFields, restCheck, fieldsCheck}
+use Rattle.polygon.proofs.Laws.Pair.{optional-first, optional-check}
+use Rattle.fields.specs.Fields.{isAllowed, isCharset, fieldEnd, charsetStart, nameStart, knownStart, verticesStart}
+use Rattle.fields.specs.Fields.{gridAt, gridOf, tagOf, secondStart, sheetEnd, zoneCheck, charsetCheck, knownCheck}
+use Rattle.fields.specs.Fields.{verticesCheck, fiveFields, sheetFields, restCheck, fieldsCheck}
+use Rattle.polygon.proofs.Laws.Checks.{accept-passed}
 use Rattle.sheet.specs.Sheet.{zoneOf, charsetOf, nameLength, nameOf, knownOf, vertexCountOf, verticesOf, secondOf}
-use Rattle.sheet.specs.Sheet.{carriedCheck, sheetCheck}
+use Rattle.sheet.specs.Sheet.{sheetSecondCheck, sheetCheck}
 use Rattle.sheet.specs.Claims.{ReadsAs}
 use Rattle.sheet.specs.Write.{fieldBytes, secondBytes, sheetBytes}
-use Rattle.sheet.proofs.Laws.Checks.{then-next}
-use Rattle.sheet.proofs.Laws.Fields.{allowed-bounds, bounds-allowed}
+use Rattle.fields.proofs.Laws.Fields.{allowed-bounds, bounds-allowed}
 use Rattle.sheet.proofs.Laws.Stores.{wordBytes-length, sheetBytes-length}
 use Rattle.sheet.proofs.Laws.Bodies.{tag-written, length-written, body-written, rest-written, field-written}
-use Rattle.sheet.proofs.Laws.Reads.{plain-polygon, carried-none, carried-second, sheet-carried, read-accepted}
-use Rattle.sheet.proofs.Laws.Accepted.{accepted-list, accepted-known, accepted-number, fits-word, within-word}
-use Rattle.sheet.proofs.Laws.Accepted.{optional-check, optional-small}
+use Rattle.sheet.proofs.Laws.Reads.{plain-polygon, second-absent, second-present, sheet-second, read-accepted}
+use Rattle.sheet.proofs.Laws.Accepted.{accepted-list, accepted-number, fits-word, within-word, optional-small}
 use Rattle.sheet.proofs.Laws.Second.{none-written, some-written, second-field-written, second-written}
 use Rattle.sheet.proofs.Laws.Second.{end-second}
 
@@ -129,7 +128,7 @@ module _
 
   pub known-written : knownOf b ≡ known
   known-written =
-      point-written b (knownStart b + 3) known _ (within-word g (accepted-known (limitOf g) vertices known accepted))
+      point-written b (knownStart b + 3) known _ (within-word g (accept-passed accepted .known))
       (body-written b (knownStart b) 4 (pointBytes known) _ known-at)
 
   pub grid-written : gridOf b ≡ g
@@ -158,8 +157,11 @@ module _
   charset-passed : charsetCheck b ≡ Passed
   unfolding charsetCheck isAllowed
   charset-passed =
-      then-next _ (field-written b charsetStart 2 (charset ∷ []) _ charset-at (isAllowed 1 1 1) (omega arith) refl)
-      ∙ rw (charset-written, w .coded)
+      rw (
+        field-written b charsetStart 2 (charset ∷ []) _ charset-at (isAllowed 1 1 1) (omega arith) refl,
+        charset-written,
+        w .coded,
+      )
 
   zone-passed : zoneCheck b ≡ Passed
   unfolding isAllowed
@@ -202,20 +204,20 @@ module _
   pub second-back : secondOf b ≡ second
   second-back = second-written second b second-at second-within
 
-  carried-written : carriedCheck b ≡ Passed
-  carried-written = go (isNull second) refl
+  second-check-written : sheetSecondCheck b ≡ Passed
+  second-check-written = go (isNull second) refl
     where
-      go : (none : Bool) → isNull second ≡ none → carriedCheck b ≡ Passed
-      go true e = carried-none b (none-written second b second-at e) .1
+      go : (none : Bool) → isNull second ≡ none → sheetSecondCheck b ≡ Passed
+      go true e = second-absent b (none-written second b second-at e) .1
       go false e =
-          carried-second b (some-written second b second-at e) .1
+          second-present b (some-written second b second-at e) .1
           ∙ rw (grid-written, vertices-written, known-written, second-back)
-          (optional-check g vertices known second (w .paired) e)
+          (optional-check (limitOf g) vertices known second (w .paired) e)
 
   written-check : sheetCheck b ≡ Passed
   written-check =
-      sheet-carried b (plain-polygon b fields-written ∙ rw (grid-written, vertices-written, known-written) accepted)
-      ∙ carried-written
+      sheet-second b (plain-polygon b fields-written ∙ rw (grid-written, vertices-written, known-written) accepted)
+      ∙ second-check-written
 
   pub reads-as : ReadsAs zone charset name known g vertices second b
   reads-as =

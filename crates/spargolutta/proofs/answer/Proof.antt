@@ -1,7 +1,7 @@
 -- `answer` meets its contract.
 use mathlib.Core.Path.{_∙_, ap}
 use borrow.Author.Needs.{needs}
-use Rattle.sheet.specs.Judge.{sheetAnswerOf}
+use Rattle.zone.specs.Judge.{sheetAnswerOf}
 use Rattle.spargolutta.proofs.Handed.{handed}
 use Rattle.spargolutta.proofs.answer.Statement.{statement}
 use Rattle.spargolutta.proofs.answer.Tie as tie

@@ -1,7 +1,7 @@
 -- `spg_feed_number` meets its contract.
 use mathlib.Core.Path.{_∙_, ap}
 use borrow.Author.Needs.{needs}
-use Rattle.polygon.specs.Answer.{numberOf}
+use Rattle.answer.specs.Answer.{numberOf}
 use Rattle.spargolutta.proofs.spg_feed_number.Statement.{statement}
 use Rattle.spargolutta.proofs.spg_feed_number.Tie as tie
 

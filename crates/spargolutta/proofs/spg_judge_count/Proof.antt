@@ -1,7 +1,7 @@
 -- `spg_judge_count` meets its contract.
 use mathlib.Core.Path.{_∙_, ap}
 use borrow.Author.Needs.{needs}
-use Rattle.polygon.specs.Answer.{countOf}
+use Rattle.answer.specs.Answer.{countOf}
 use Rattle.spargolutta.proofs.Handed.{handed-answer}
 use Rattle.spargolutta.proofs.spg_judge_count.Statement.{statement}
 use Rattle.spargolutta.proofs.spg_judge_count.Tie as tie

@@ -1,7 +1,7 @@
 -- `spg_judge_looked` meets its contract.
 use mathlib.Core.Path.{_∙_, ap}
 use borrow.Author.Needs.{needs}
-use Rattle.sheet.specs.Judge.{sheetLookedOf}
+use Rattle.zone.specs.Judge.{sheetLookedOf}
 use Rattle.spargolutta.proofs.Handed.{handed}
 use Rattle.spargolutta.proofs.spg_judge_looked.Statement.{statement}
 use Rattle.spargolutta.proofs.spg_judge_looked.Tie as tie

@@ -1,7 +1,7 @@
 -- `spg_judge_place` meets its contract.
 use mathlib.Core.Path.{_∙_, ap}
 use borrow.Author.Needs.{needs}
-use Rattle.polygon.specs.Answer.{placeOf}
+use Rattle.answer.specs.Answer.{placeOf}
 use Rattle.spargolutta.proofs.Handed.{handed-answer}
 use Rattle.spargolutta.proofs.spg_judge_place.Statement.{statement}
 use Rattle.spargolutta.proofs.spg_judge_place.Tie as tie

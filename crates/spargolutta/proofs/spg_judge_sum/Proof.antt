@@ -3,7 +3,7 @@ use mathlib.Core.Path.{_∙_, ap}
 use borrow.Author.Needs.{needs}
 use mir.Syntax.{w32}
 use Rattle.integers.proofs.Compare.{result-same}
-use Rattle.polygon.specs.Answer.{sumOf}
+use Rattle.answer.specs.Answer.{sumOf}
 use Rattle.spargolutta.proofs.Handed.{handed-answer}
 use Rattle.spargolutta.proofs.spg_judge_sum.Statement.{statement}
 use Rattle.spargolutta.proofs.spg_judge_sum.Tie as tie

@@ -1,8 +1,13 @@
--- `judge_pair` meets its contract: lines 10 and 28, and then the call on the outline's grid.
+-- `judge_pair` meets its contract: lines 10 and 28, then 10 to 16 and 19, and then the query.
 use mathlib.Core.Path.{_≡_, sym, ap, _∙_}
 use mathlib.Core.List.{[], _∷_}
 use borrow.Author.Needs.{needs}
+use Rattle.sphere.specs.Point.{limitOf}
+use Rattle.answer.specs.declared.Check.the-variants.{Passed}
+use Rattle.polygon.specs.Pair.{pairCheck, pairAnswerOf}
 use Rattle.polygon.specs.Grids.{isMixed, gridCheck, gridPairOf}
+use Rattle.polygon.proofs.Laws.Pair.{optional-first, pair→optional}
+use Rattle.judging.proofs.Laws.Accept.{room-any, after-boxed}
 use Rattle.judging.proofs.calls.judge_pair.Statement.{statement}
 use Rattle.judging.proofs.calls.judge_pair.Tie as tie
 
@@ -31,16 +36,74 @@ returns : tie.Need-returns
 unfolding gridPairOf
 returns c = rw (sym (checked (c .before .before .before)) ∙ c .before .number .given .1)
 
-judge-pair-on-requires : tie.Need-judge-pair-on-requires
-judge-pair-on-requires c κs = search needs
+-- They passed.
+unmixed : (c : tie.After-boxes) →
+    let a = c .before .before .before .before .before .args in
+    gridCheck (a .vertices .now) (isMixed (a .grid) (a .known .grid ∷ a .second .grid ∷ a .query .grid ∷ [])) ≡ Passed
+unmixed c = sym (checked (c .before .before .before)) ∙ c .before .enum-told .given .1
+
+slice-aggregate-pair-boxed : tie.Need-slice-aggregate-pair-boxed
+slice-aggregate-pair-boxed c = search needs
+
+pair-boxed-requires : tie.Need-pair-boxed-requires
+pair-boxed-requires c κs =
+    room-any (c .before .before .before .before .before .args .vertices .now) _ (search needs)
+
+enum-told-2 : tie.Need-enum-told-2
+enum-told-2 c = search needs
+
+enum-known-number-2 : tie.Need-enum-known-number-2
+enum-known-number-2 c = search needs
 
 returns-2 : tie.Need-returns-2
-unfolding gridPairOf
+unfolding gridPairOf pairAnswerOf
 returns-2 c =
-    rw (sym (checked (c .before .before .before)) ∙ c .before .enum-told .given .1) (c .judge-pair-on .ensures)
+    let a = c .before .before .before .before in
+    rw (unmixed (a .before), sym (a .pair-boxed .ensures .0) ∙ c .before .number2 .given .1)
+
+-- Lines 10 to 16 and 19 passed.
+accepted : (c : tie.After-enum-told2) →
+    let s = c .before .before .before .before .before .before .before .before .before .args in
+    pairCheck (limitOf (s .grid)) (s .vertices .now) (s .known .point) (s .second .point) ≡ Passed
+accepted c = sym (c .before .before .before .pair-boxed .ensures .0) ∙ c .enum-told2 .given .1
+
+slice-aggregate-judge-boxed : tie.Need-slice-aggregate-judge-boxed
+slice-aggregate-judge-boxed c = search needs
+
+judge-boxed-requires : tie.Need-judge-boxed-requires
+judge-boxed-requires c κs =
+    let t = c .before in
+    let ok = accepted t in
+    let a = t .before .before .before in
+    let s = a .before .before .before .before .before .before .args in
+    let limit = limitOf (s .grid) in
+    let vs = s .vertices .now in
+    let both = pair→optional limit vs (s .known .point) (s .second .point) ok in
+    let first = optional-first limit vs (s .known .point) (s .second .point) both in (
+      both,
+      rw (a .pair-boxed .ensures .1, first)
+          (after-boxed limit vs (s .known .point) _ first (room-any vs _ (search needs))),
+    )
+
+returns-3 : tie.Need-returns-3
+unfolding gridPairOf pairAnswerOf
+returns-3 c =
+    let t = c .before .before in rw (unmixed (t .before .before .before .before), accepted t) (c .judge-boxed .ensures)
 
 pub judge-pair-spec : {M : Type 1} → statement M
 judge-pair-spec =
     tie.close
-    (tie.spec is-mixed-of-three-requires grid-check-requires enum-told enum-known-number returns judge-pair-on-requires
-    returns-2)
+    (tie.spec
+    is-mixed-of-three-requires
+    grid-check-requires
+    enum-told
+    enum-known-number
+    returns
+    slice-aggregate-pair-boxed
+    pair-boxed-requires
+    enum-told-2
+    enum-known-number-2
+    returns-2
+    slice-aggregate-judge-boxed
+    judge-boxed-requires
+    returns-3)

@@ -1,7 +1,7 @@
 -- `open::decode_vertices` meets its contract.
 use native.Mathlib.Omega.{arith}
 use borrow.Author.Needs.{needs}
-use Rattle.sheet.proofs.Laws.Fields.{passed-spans}
+use Rattle.fields.proofs.Laws.Fields.{passed-spans}
 use Rattle.sheet.proofs.open.decode_vertices.Statement.{statement}
 use Rattle.sheet.proofs.open.decode_vertices.Tie as tie
 

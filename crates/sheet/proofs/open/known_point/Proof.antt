@@ -3,7 +3,7 @@ use mathlib.Core.Path.{ap, _∙_}
 use Prim.Native.Nat.{ℕ, _+_}
 use native.Mathlib.Omega.{arith}
 use Rattle.big_endian.specs.Bytes.{pointAt}
-use Rattle.sheet.proofs.Laws.Fields.{passed-spans}
+use Rattle.fields.proofs.Laws.Fields.{passed-spans}
 use Rattle.sheet.proofs.open.known_point.Statement.{statement}
 use Rattle.sheet.proofs.open.known_point.Tie as tie
 

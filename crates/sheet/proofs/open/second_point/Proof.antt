@@ -4,8 +4,8 @@ use Prim.Native.Nat.{ℕ, _+_}
 use native.Mathlib.Omega.{arith}
 use borrow.Author.Needs.{needs}
 use Rattle.big_endian.specs.Bytes.{pointAt}
-use Rattle.sheet.proofs.Laws.Fields.{five-passed, second-body}
-use Rattle.sheet.proofs.Laws.Reads.{carried-none, carried-second}
+use Rattle.fields.proofs.Laws.Fields.{five-passed, second-body}
+use Rattle.sheet.proofs.Laws.Reads.{second-absent, second-present}
 use Rattle.sheet.proofs.open.second_point.Statement.{statement}
 use Rattle.sheet.proofs.open.second_point.Tie as tie
 
@@ -33,12 +33,12 @@ returns c =
     let has = sym (h .has-second .ensures) ∙ c .before .before .if1 .taken in
     c .point-at .ensures
     ∙ ap (λ (at : ℕ). pointAt b (at + 3)) (c .before .second-start .ensures .0)
-    ∙ sym (carried-second b has .0)
+    ∙ sym (second-present b has .0)
 
 returns-2 : tie.Need-returns-2
 returns-2 c =
     let b = c .before .before .before .args .b .now in
-    sym (carried-none b (sym (c .before .has-second .ensures) ∙ c .if1 .left) .0)
+    sym (second-absent b (sym (c .before .has-second .ensures) ∙ c .if1 .left) .0)
 
 pub second-point-spec : {M : Type 1} → statement M
 second-point-spec =

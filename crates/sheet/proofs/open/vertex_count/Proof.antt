@@ -1,7 +1,7 @@
 -- `open::vertex_count` meets its contract.
 use native.Mathlib.Omega.{arith}
 use borrow.Author.Needs.{needs}
-use Rattle.sheet.proofs.Laws.Fields.{passed-spans}
+use Rattle.fields.proofs.Laws.Fields.{passed-spans}
 use Rattle.sheet.proofs.open.vertex_count.Statement.{statement}
 use Rattle.sheet.proofs.open.vertex_count.Tie as tie
 

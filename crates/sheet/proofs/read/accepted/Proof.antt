@@ -1,49 +1,55 @@
 -- `read::accepted` meets its contract.
+use mathlib.Core.Path.{_≡_, ap, _∙_}
 use native.Mathlib.Omega.{arith}
 use borrow.Author.Needs.{needs}
-use Rattle.sheet.proofs.Laws.Fields.{passed-spans, five-passed}
+use lib.ListN.{length}
+use Rattle.answer.specs.declared.Answer.the-variants.{Done}
+use Rattle.fields.proofs.Laws.Fields.{Spans, passed-spans, five-passed}
+use Rattle.sheet.specs.Sheet.{nameAt}
 use Rattle.sheet.proofs.read.accepted.Statement.{statement}
 use Rattle.sheet.proofs.read.accepted.Tie as tie
 
+spans : (c : tie.Start) → Spans (c .args .b .now)
+spans c = passed-spans (c .args .b .now) (five-passed _ (c .pre .0))
+
 word-at-requires : tie.Need-word-at-requires
-word-at-requires c κs = let s = passed-spans (c .before .args .b .now) (five-passed _ (c .before .pre)) in omega arith
+word-at-requires c κs = let s = spans (c .before .before .before) in omega arith
 
 add-byte-at : tie.Need-add-byte-at
 add-byte-at c = search needs
 
 byte-at-requires : tie.Need-byte-at-requires
-byte-at-requires c κs =
-    let s = passed-spans (c .before .before .args .b .now) (five-passed _ (c .before .before .pre)) in
-    omega arith
+byte-at-requires c κs = let s = spans (c .before .before .before .before) in omega arith
 
-add-t7 : tie.Need-add-t7
-add-t7 c = search needs
+add-t11 : tie.Need-add-t11
+add-t11 c = search needs
 
 add-short-at : tie.Need-add-short-at
 add-short-at c = search needs
 
 short-at-requires : tie.Need-short-at-requires
-short-at-requires c κs =
-    let s = passed-spans (c .before .before .before .args .b .now) (five-passed _ (c .before .before .before .pre)) in
-    omega arith
+short-at-requires c κs = let s = spans (c .before .before .before .before .before) in omega arith
 
-cast-t10 : tie.Need-cast-t10
-cast-t10 c = search needs
-
-known-point-requires : tie.Need-known-point-requires
-known-point-requires c κs = five-passed _ (c .before .before .before .before .pre)
-
-vertex-count-requires : tie.Need-vertex-count-requires
-vertex-count-requires c κs = five-passed _ (c .before .before .before .before .before .pre)
-
-second-point-requires : tie.Need-second-point-requires
-second-point-requires c κs = search needs
-
-grid-requires : tie.Need-grid-requires
-grid-requires c κs = five-passed _ (c .before .before .before .before .before .before .before .pre)
+cast-t14 : tie.Need-cast-t14
+cast-t14 c = search needs
 
 returns : tie.Need-returns
-returns c = cc
+returns c =
+    let y = c .before in
+    let w = y .before in
+    let s = w .before .before .before .before in
+    let e = s .pre .1 in
+    λ i. record {
+      answer = Done (length (s .args .b .now));
+      zone = w .word-at .ensures i;
+      charset = y .byte-at .ensures i;
+      «name_at» = nameAt;
+      «name_len» = c .short-at .ensures i;
+      known = e i .known;
+      «vertex_count» = e i .count;
+      second = e i .second;
+      grid = e i .grid;
+    }
 
 pub accepted-spec : {M : Type 1} → statement M
 accepted-spec =
@@ -52,12 +58,8 @@ accepted-spec =
     word-at-requires
     add-byte-at
     byte-at-requires
-    add-t7
+    add-t11
     add-short-at
     short-at-requires
-    cast-t10
-    known-point-requires
-    vertex-count-requires
-    second-point-requires
-    grid-requires
+    cast-t14
     returns)

@@ -6,7 +6,7 @@ use borrow.Author.Needs.{needs}
 use lib.ListN.{length}
 use Rattle.big_endian.specs.Bytes.{intsBytes}
 use Rattle.big_endian.proofs.Laws.Stores.{intsBytes-length}
-use Rattle.sheet.specs.Fields.{tagOf}
+use Rattle.fields.specs.Fields.{tagOf}
 use Rattle.sheet.proofs.Laws.Stores.{field-stored}
 use Rattle.sheet.proofs.store.put_vertices.Statement.{statement}
 use Rattle.sheet.proofs.store.put_vertices.Tie as tie

@@ -6,7 +6,7 @@ use borrow.Author.Tests.{not-true, not-false}
 use borrow.Author.Needs.{needs}
 use lib.ListN.{length}
 use Rattle.polygon.specs.Grids.{isMixed, gridCheck, gridOfSecond}
-use Rattle.sheet.specs.Fields.{isAllowed, isCharset}
+use Rattle.fields.specs.Fields.{isAllowed, isCharset}
 use Rattle.sheet.specs.Write.{inputCheck}
 use Rattle.sheet.proofs.write.input_check.Statement.{statement}
 use Rattle.sheet.proofs.write.input_check.Tie as tie

@@ -2,7 +2,7 @@
 use mathlib.Core.Path.{_≡_, sym, _∙_}
 use native.Mathlib.Omega.{arith}
 use borrow.Author.Needs.{needs}
-use Rattle.polygon.specs.declared.answer.Check.the-variants.{Passed}
+use Rattle.answer.specs.declared.Check.the-variants.{Passed}
 use Rattle.sheet.specs.Write.{inputCheck}
 use Rattle.sheet.proofs.Laws.Writes.{input-sizes, input-storable, write-refused, write-short, write-done}
 use Rattle.sheet.proofs.write.write.Statement.{statement}
@@ -29,20 +29,20 @@ returns c =
 enum-told : tie.Need-enum-told
 enum-told c = search needs
 
-needed-for-requires : tie.Need-needed-for-requires
-needed-for-requires c κs = input-sizes _ _ _ _ _ _ (passed c)
+bytes-needed-requires : tie.Need-bytes-needed-requires
+bytes-needed-requires c κs = input-sizes _ _ _ _ _ _ (passed c)
 
 returns-2 : tie.Need-returns-2
 returns-2 c =
     let d = c .before .before in
     let i = d .before .before .before .before .before .args in
-    let n = c .before .needed-for .ensures in
+    let n = c .before .bytes-needed .ensures in
     let w = write-short _ _ _ _ _ _ (i .zone) (i .buffer .now) (passed d) (omega arith) in
     (rw n (sym (w .answered)), sym (w .filled))
 
 put-sheet-requires : tie.Need-put-sheet-requires
 put-sheet-requires c κs =
-    let n = c .before .before .needed-for .ensures in
+    let n = c .before .before .bytes-needed .ensures in
     input-storable _ _ _ _ _ _ (passed (c .before .before .before)) _ (omega arith)
 
 same-length : tie.Need-same-length
@@ -53,7 +53,7 @@ returns-3 c =
     let k = c .before .before .before .before .before in
     let d = k .before in
     let i = d .before .before .before .before .before .args in
-    let n = k .needed-for .ensures in
+    let n = k .bytes-needed .ensures in
     let w = write-done _ _ _ _ _ _ (i .zone) (i .buffer .now) (passed d) (omega arith) in
     (rw n (sym (w .answered)), c .before .before .put-sheet .ensures ∙ sym (w .filled))
 
@@ -65,7 +65,7 @@ write-spec =
     enum-known-number
     returns
     enum-told
-    needed-for-requires
+    bytes-needed-requires
     returns-2
     put-sheet-requires
     same-length

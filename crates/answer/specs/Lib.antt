@@ -1,0 +1,4 @@
+pub mod Search
+pub mod Answer
+pub mod Chain
+pub mod Buffer

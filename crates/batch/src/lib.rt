@@ -1,2 +1,0 @@
-// Many queries to one polygon: the polygon and its reference point are checked once.
-pub mod feed;

@@ -1,0 +1,6 @@
+pub mod Boxes
+pub mod Arc
+pub mod Scan
+pub mod Spans
+pub mod Walk
+pub mod Claims

@@ -1,0 +1,32 @@
+-- Scratch space for a sheet's boxes. Proved, in order: any-boxes (768 numbers, for any sheet), few-boxes (48, for one
+-- of at most 3,072 bytes).
+use mathlib.Core.List.{List}
+use Prim.Native.Nat.{ℕ, _+_, _*_, _≤_}
+use native.Mathlib.Omega.{arith}
+use lib.IntN.{ℤ}
+use lib.ListN.{length}
+use Rattle.big_endian.proofs.Laws.Rows.{intsAt-length}
+use Rattle.polygon.specs.Vertices.{vertexCount}
+use Rattle.search.specs.Boxes.{runCount}
+use Rattle.fields.specs.Fields.{verticesStart}
+use Rattle.fields.proofs.Laws.Fields.{passed-spans}
+use Rattle.judging.proofs.Laws.Accept.{room-any}
+use Rattle.sheet.specs.Sheet.{vertexCountOf, verticesOf}
+use Rattle.sheet.specs.Open.{BoxesFor}
+
+pub any-boxes : (b : List ℕ) (boxes : List ℤ) → 768 ≤ length boxes → BoxesFor b boxes
+any-boxes b boxes h = record { enough = λ e. room-any (verticesOf b) boxes h }
+
+few-runs : (n : ℕ) → n ≤ 256 → runCount n * 6 ≤ 48
+unfolding runCount
+few-runs n h = omega arith
+
+pub few-boxes : (b : List ℕ) (boxes : List ℤ) → length b ≤ 3072 → 48 ≤ length boxes → BoxesFor b boxes
+few-boxes b boxes short h = record {
+  enough = λ e.
+      let spans = passed-spans b e in
+      let size = intsAt-length b (verticesStart b + 3) (vertexCountOf b * 3) in
+      let n : vertexCount (verticesOf b) ≤ 256 =
+      omega (arith, size, spans .second-at, spans .ends, spans .known-at, spans .name .low) in
+      record { enough = λ few. omega (arith, few-runs (vertexCount (verticesOf b)) n) };
+}

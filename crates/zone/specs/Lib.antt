@@ -1,0 +1,3 @@
+pub mod Judge
+pub mod Choose
+pub mod Claims
