@@ -16,10 +16,9 @@ use Rattle.integers.proofs.Sign.{lt, gt, le, ge, is, is-allows, allows-is}
 use Rattle.integers.proofs.Infer.{Claim, claim, ints-sign}
 use Rattle.integers.proofs.Order.{le→diff}
 use Rattle.sphere.specs.declared.point.Point.{Point}
-use Rattle.sphere.specs.Point.{Within}
+use Rattle.sphere.specs.Point.{Within, origin}
 use Rattle.sphere.specs.Orientation.{dotOf}
 use Rattle.sphere.proofs.Vectors.{dotE, vecs, vecs-sign}
-use Rattle.sphere.proofs.Laws.Orientation.{origin}
 use Rattle.search.specs.declared.boxes.Bounds.{Bounds}
 use Rattle.search.specs.Boxes.{endFor, cornerFor, isApart}
 use Rattle.search.specs.Claims.{Below, InBox, AllAbove, AllBelow}

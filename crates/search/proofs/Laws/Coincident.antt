@@ -13,11 +13,10 @@ use Rattle.sphere.specs.declared.point.Point.{Point}
 use Rattle.sphere.specs.Orientation.{orientationOf}
 use Rattle.sphere.specs.Direction.{isSameDirection}
 use Rattle.sphere.specs.OnEdge.{isOnEdge}
-use Rattle.sphere.specs.Joined.{joinsOf}
 use Rattle.sphere.proofs.Laws.Aligned.{aligned-refl, same→aligned}
 use Rattle.sphere.proofs.Laws.OnEdge.{on-edge-swap, on-edge-aligned}
 use Rattle.polygon.specs.Vertices.{vertexCount, startOf, endOf}
-use Rattle.polygon.specs.Border.{isCoincident}
+use Rattle.polygon.specs.Border.{joinsOf, isCoincident}
 use Rattle.polygon.specs.Verdict.{isHeldBy}
 use Rattle.polygon.proofs.Laws.Checks.{OffCircles}
 use Rattle.search.specs.Boxes.{isSkipped}

@@ -4,7 +4,7 @@ use mathlib.Core.Bool.{Bool, _&&_}
 use native.Mathlib.Omega.{arith}
 use Rattle.sphere.specs.Point.{fine, Within}
 use Rattle.sphere.specs.Direction.{isSameDirection}
-use Rattle.sphere.specs.Joined.{joinsOf}
+use Rattle.polygon.specs.Border.{joinsOf}
 use Rattle.polygon.specs.Vertices.{startOf, endOf}
 use Rattle.polygon.proofs.Laws.Edges.{end-within}
 use Rattle.polygon.proofs.border.coincident.Statement.{statement}
