@@ -1,6 +1,6 @@
 -- The claims of specs/Claims, proved.
 -- Proved, in order: read-never-ten, sheet-size, read-writes-back, written-reads-back. The octant's sheets
--- are in proofs/Octant, mixed grids in proofs/Mixed.
+-- are in proofs/Octant, mixed grids in proofs/Mixed, 25 in proofs/Short.
 use mathlib.Core.Path.{_≡_, refl, sym, ap, _∙_}
 use mathlib.Core.Bool.{Bool, true, false, cond}
 use mathlib.Core.List.{List, [], _∷_, _++_, append-nil}
@@ -60,11 +60,11 @@ unfolding readOf
 read-never-ten b e = not-ten b (sheetCheck b) (above-sheet b) e
 
 -- An accepted sheet: its fields are sound, they end where it ends, and its points are accepted.
-record Accepted (b : List ℕ) : Type 0 where
-  sound : sheetFields b ≡ Passed
-  ends : length b ≡ sheetEnd b
-  points : optionalCheck (limitOf (gridOf b)) (verticesOf b) (knownOf b) (secondOf b) ≡ Passed
-  some : hasSecond b ≡ true → isNull (secondOf b) ≡ false
+pub record Accepted (b : List ℕ) : Type 0 where
+  pub sound : sheetFields b ≡ Passed
+  pub ends : length b ≡ sheetEnd b
+  pub points : optionalCheck (limitOf (gridOf b)) (verticesOf b) (knownOf b) (secondOf b) ≡ Passed
+  pub some : hasSecond b ≡ true → isNull (secondOf b) ≡ false
 
 module _ (b : List ℕ) (e : sheetCheck b ≡ Passed) where
   no-rest : length b ≤ sheetEnd b
@@ -80,7 +80,7 @@ module _ (b : List ℕ) (e : sheetCheck b ≡ Passed) where
       let second = second-passed (limitOf (gridOf b)) (verticesOf b) (knownOf b) (secondOf b) passed in
       accepted-some (limitOf (gridOf b)) (verticesOf b) (secondOf b) (second .accepted)
 
-  accepted : Accepted b
+  pub accepted : Accepted b
   accepted =
       let within = end-within b (sheet-sound b e) in
       record {
@@ -107,7 +107,7 @@ sheet-size b e =
 -- ---- what is read writes back
 
 -- A sheet's points are on one grid.
-one-grid : (g : Grid) (Y : Point) → isMixed g (g ∷ gridOfSecond g (on g Y) ∷ []) ≡ false
+pub one-grid : (g : Grid) (Y : Point) → isMixed g (g ∷ gridOfSecond g (on g Y) ∷ []) ≡ false
 one-grid g Y = go g (isNull Y)
   where
     go : (g : Grid) (none : Bool) → isMixed g (g ∷ cond none g g ∷ []) ≡ false
@@ -117,16 +117,16 @@ one-grid g Y = go g (isNull Y)
     go Fine false = refl
 
 module _ (b : List ℕ) (a : Accepted b) where
-  five : fiveFields b ≡ Passed
+  pub five : fiveFields b ≡ Passed
   five = five-passed b (a .sound)
 
-  coded : isCharset (charsetOf b) ≡ true
+  pub coded : isCharset (charsetOf b) ≡ true
   unfolding charsetCheck
   coded =
       let f = fieldCheck 2 (isAllowed 1 1 1) b charsetStart in
       not-false _ (here-passed 23 charsetStart _ (then-passed f _ (passed-fields b five .charset) .1))
 
-  named : isAllowed 1 120 1 (length (nameOf b)) ≡ true
+  pub named : isAllowed 1 120 1 (length (nameOf b)) ≡ true
   named =
       ap (isAllowed 1 120 1) (nameOf-length b five)
       ∙ passed-field 3 (isAllowed 1 120 1) b nameStart (passed-fields b five .name) .allowed

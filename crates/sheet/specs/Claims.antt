@@ -1,9 +1,9 @@
 -- The promised theorems, as statements. Their proofs are in proofs/Claims. Stated, in order: WrittenReadsBack (what is
 -- written reads back the same, on either grid), ReadWritesBack (what is read writes back the same bytes),
--- WriteMixedExactly (28), ReadNeverTen (reading never gives 10), SheetSize (a sheet has 69 to 49,319 bytes),
--- OctantSheet (document 01's sheet of 69 bytes, byte by byte: the round trips would hold of another layout too),
--- OctantPairSheet (the same with a second point, 84 bytes), OctantFineSheet (the same with tag 7). They are of the
--- definitions that the contracts of `read`, `load` and `write` cite. A second point of all zero is none.
+-- WriteMixedExactly (28), ShortBufferExactly (25), ReadNeverTen (reading never gives 10), SheetSize (a sheet has 69 to
+-- 49,319 bytes), OctantSheet (document 01's sheet of 69 bytes, byte by byte: the round trips would hold of another
+-- layout too), OctantPairSheet (the same with a second point, 84 bytes), OctantFineSheet (the same with tag 7). They
+-- are of the definitions that the contracts of `read`, `load` and `write` cite. A second point of all zero is none.
 use mathlib.Core.Path.{_≡_}
 use mathlib.Core.Bool.{not}
 use mathlib.Core.List.{List, [], _∷_, _++_}
@@ -16,7 +16,10 @@ use Rattle.sphere.specs.declared.point.Grid.the-variants.{Coarse, Fine}
 use Rattle.sphere.specs.declared.point.GridPoint.{GridPoint}
 use Rattle.big_endian.specs.Bytes.{AreBytes}
 use Rattle.polygon.specs.Pair.{noSecond}
-use Rattle.answer.specs.declared.Answer.the-variants.{Done}
+use Rattle.answer.specs.declared.Answer.{Answer}
+use Rattle.answer.specs.declared.Answer.the-variants.{Done, Refused}
+use Rattle.answer.specs.declared.Check.{Check}
+use Rattle.answer.specs.declared.Check.the-variants.{Passed}
 use Rattle.answer.specs.Answer.{numberOf, placeOf}
 use Rattle.polygon.specs.Vertices.{vertexCount}
 use Rattle.answer.specs.Chain.{_then_, failsIf}
@@ -26,7 +29,7 @@ use Rattle.polygon.specs.GridClaims.{Mixed, on}
 use Rattle.fields.specs.Fields.{isCharset, isNameLength}
 use Rattle.sheet.specs.declared.read.Sheet.{Sheet}
 use Rattle.sheet.specs.Sheet.{nameAt, verticesOf, readOf}
-use Rattle.sheet.specs.Write.{sheetBytes, writeOf, writtenTo}
+use Rattle.sheet.specs.Write.{sheetBytes, inputCheck, writeOf, writtenTo}
 
 -- The name's bytes, by the place and the length that reading hands back.
 abbrev pub nameIn : Sheet → List ℕ → List ℕ
@@ -76,6 +79,19 @@ WriteMixedExactly =
     Mixed (writeOf charset name known g vertices second room)
     (failsIf 23 (not (isCharset charset)) then failsIf 22 (not (isNameLength (length name))) then listCheck vertices)
     (isMixed g (known .grid ∷ gridOfSecond g second ∷ []))
+
+-- 25 exactly when nothing else is wrong and the buffer is shorter than the sheet's own bytes; its place is their number.
+pub record ShortBuffer (answer : Answer) (before : Check) (room size : ℕ) : Type 0 where
+  pub refused→short : numberOf answer ≡ 25 → (before ≡ Passed) × (room < size)
+  pub short→refused : before ≡ Passed → room < size → answer ≡ Refused 25 size
+
+abbrev pub ShortBufferExactly : Type 0
+ShortBufferExactly =
+    (zone charset : ℕ) (name : List ℕ) (known : GridPoint) (g : Grid) (vertices : List ℤ) (second : GridPoint)
+    (room : ℕ) →
+    ShortBuffer (writeOf charset name known g vertices second room)
+    (inputCheck charset name known g vertices second) room
+    (length (sheetBytes zone charset name (known .point) g vertices (second .point)))
 
 -- A list that is too short or too long is refused by its length, 22.
 abbrev pub ReadNeverTen : Type 0

@@ -1,6 +1,6 @@
 -- Document 01, 'The zone sheet': the bytes of a sheet, and what writing one does on every input.
--- Defined, in order: fieldBytes, secondBytes, secondSize, sheetBytes, bytesNeeded, Storable; inputCheck (23, 22, 10,
--- 28, 11 to 16, 19), writeCheck (25 too), writeOf, writtenTo. A second point of all zero is none (document 02, P4), and
+-- Defined, in order: fieldBytes, secondBytes, secondSize, sheetBytes, bytesNeeded; inputCheck (23, 22, 10, 28, 11 to
+-- 16, 19), writeCheck (25 too), writeOf, writtenTo; Storable (for the code alone). A second point of all zero is none (document 02, P4), and
 -- has no grid (P8).
 use mathlib.Core.Bool.{not, cond}
 use mathlib.Core.List.{List, [], _∷_, _++_}
@@ -46,16 +46,6 @@ sheetBytes zone charset name known g vertices second =
 abbrev pub bytesNeeded : List ℕ → List ℤ → Point → ℕ
 bytesNeeded name vertices second = 32 + length name + length vertices * 4 + secondSize second
 
--- What the code that stores a sheet wants of its numbers, in `room` bytes. Every input that passes the checks has it.
-pub record Storable (charset : ℕ) (name : List ℕ) (known : Point) (vertices : List ℤ) (second : Point) (room : ℕ)
-    : Type 0 where
-  pub charset-small : charset < 256
-  pub name-short : length name ≤ 120
-  pub known-small : Within 2147483647 known
-  pub row-short : length vertices ≤ 12288
-  pub second-small : Within 2147483647 second
-  pub enough : bytesNeeded name vertices second ≤ room
-
 -- ---- writing into `room` bytes
 
 unfoldable pub inputCheck : ℕ → List ℕ → GridPoint → Grid → List ℤ → GridPoint → Check
@@ -80,3 +70,15 @@ unfoldable pub writtenTo : ℕ → ℕ → List ℕ → GridPoint → Grid → L
 writtenTo zone charset name known g vertices second buffer =
     bufferAfter (writeCheck charset name known g vertices second (length buffer))
     (sheetBytes zone charset name (known .point) g vertices (second .point)) buffer
+
+-- ---- for the code alone: readers need none of it
+
+-- What the code that stores a sheet wants of its numbers, in `room` bytes. Every input that passes the checks has it.
+pub record Storable (charset : ℕ) (name : List ℕ) (known : Point) (vertices : List ℤ) (second : Point) (room : ℕ)
+    : Type 0 where
+  pub charset-small : charset < 256
+  pub name-short : length name ≤ 120
+  pub known-small : Within 2147483647 known
+  pub row-short : length vertices ≤ 12288
+  pub second-small : Within 2147483647 second
+  pub enough : bytesNeeded name vertices second ≤ room

@@ -1,8 +1,10 @@
--- The claims of specs/Claims, proved. In order: sheet-answers-as-list, sheet-feed-equals-single. The octant's answers
--- are in proofs/Octant.
-use mathlib.Core.Path.{_≡_, refl, sym, subst}
+-- The claims of specs/Claims, proved. In order: sheet-answers-as-list, sheet-feed-equals-single,
+-- sheet-refused-writes-nothing, sheet-never-eighteen, sheet-looked-at-most. The chosen candidate is in proofs/Chosen,
+-- the octant's answers are in proofs/Octant.
+use mathlib.Core.Path.{_≡_, refl, sym, _∙_, ap, subst}
+use mathlib.Core.Bool.{true}
 use mathlib.Core.List.{List}
-use Prim.Native.Nat.{ℕ}
+use Prim.Native.Nat.{ℕ, _+_, _*_}
 use native.Mathlib.Omega.{arith}
 use lib.ListN.{length}
 use Rattle.sphere.specs.declared.point.Point.{Point}
@@ -10,22 +12,29 @@ use Rattle.sphere.specs.Point.{limitOf}
 use Rattle.answer.specs.declared.Answer.the-variants.{Done}
 use Rattle.answer.specs.declared.Check.{Check}
 use Rattle.answer.specs.declared.Check.the-variants.{Passed, Failed}
-use Rattle.answer.specs.Answer.{answerAfter}
+use Rattle.answer.specs.Answer.{numberOf, answerAfter}
+use Rattle.answer.specs.Buffer.{bufferAfter}
+use Rattle.answer.proofs.Laws.Numbers.{Numbered, Other}
+use Rattle.big_endian.proofs.Laws.Rows.{intsAt-length}
 use Rattle.answer.proofs.Laws.Chain.{then-passed}
 use Rattle.polygon.proofs.Laws.Pair.{optional-judged}
-use Rattle.fields.specs.Fields.{gridOf}
-use Rattle.sheet.specs.Sheet.{knownOf, verticesOf, secondOf, sheetCheck}
-use Rattle.zone.specs.Judge.{sheetAnswerOf, sheetFeedCheck, sheetFeedOf, sheetResultsAfter}
-use Rattle.zone.specs.Claims.{SheetAnswersAsList, SheetFeedEqualsSingle}
+use Rattle.fields.specs.Fields.{verticesStart, gridOf, hasSecond}
+use Rattle.sheet.specs.Sheet.{knownOf, vertexCountOf, verticesOf, secondOf, sheetCheck}
+use Rattle.zone.specs.Judge.{sheetAnswerOf, sheetLookedOf, sheetFeedCheck, sheetFeedOf, sheetResultsAfter}
+use Rattle.zone.specs.Claims.{SheetAnswersAsList, SheetFeedEqualsSingle, SheetRefusedWritesNothing}
+use Rattle.zone.specs.Claims.{SheetNeverEighteen, SheetLookedAtMost}
 use Rattle.sheet.proofs.Laws.Reads.{sheet-optional, read-accepted}
 use Rattle.polygon.specs.Verdict.{answerOf}
-use Rattle.polygon.specs.Pair.{judgeFrom}
-use Rattle.feed.specs.Feed.{sizeCheck}
+use Rattle.polygon.specs.Pair.{judgeFrom, pairCheck, optionalCheck, pairAnswerOf}
+use Rattle.polygon.proofs.PairClaims.{pair-never-eighteen-holds}
+use Rattle.judging.proofs.Claims.{looked-after, looked-bounded}
+use Rattle.feed.specs.Feed.{sizeCheck, feedBytes}
 use Rattle.feed.specs.Claims.{HoldsResults}
 use Rattle.feed.proofs.Laws.Ends.{size-passed}
 use Rattle.feed.proofs.Laws.ResultBuffer.{buffer-results, buffer-same}
 use Rattle.zone.proofs.Laws.Feeds.{feed-ends}
-use Rattle.sheet.proofs.Claims.{read-done}
+use Rattle.sheet.proofs.Laws.Numbers.{sheet-numbered}
+use Rattle.sheet.proofs.Claims.{read-done, Accepted, accepted}
 
 -- ---- judging by a sheet is judging by its parts
 pub sheet-answers-as-list : SheetAnswersAsList
@@ -68,3 +77,57 @@ module _ (b queries buffer : List ℕ) (done : sheetFeedOf b queries (length buf
 
 pub sheet-feed-equals-single : SheetFeedEqualsSingle
 sheet-feed-equals-single = sheet-results
+
+pub sheet-refused-writes-nothing : SheetRefusedWritesNothing
+unfolding sheetFeedOf sheetResultsAfter
+sheet-refused-writes-nothing b queries buffer refused =
+    go (sheetFeedCheck b queries (length buffer))
+    (feedBytes (limitOf (gridOf b)) (verticesOf b) (knownOf b) (secondOf b) queries) refused
+  where
+    go : (c : Check) (bytes : List ℕ) → (answerAfter c (Done 0) ≡ Done 0 → ⊥) → bufferAfter c bytes buffer ≡ buffer
+    go Passed bytes refused = absurd (refused refl)
+    go (Failed number place) bytes refused = refl
+
+sheet-answer-refused : (b : List ℕ) (P : Point) {n p : ℕ} → sheetCheck b ≡ Failed n p → numberOf (sheetAnswerOf b P) ≡ n
+unfolding sheetAnswerOf
+sheet-answer-refused b P e = rw e
+
+-- ---- with a second point
+module _ (b : List ℕ) (has : hasSecond b ≡ true) where
+  -- judging by an accepted sheet is judging with both points
+  paired : sheetCheck b ≡ Passed → (P : Point) →
+      sheetAnswerOf b P ≡ pairAnswerOf (limitOf (gridOf b)) (verticesOf b) (knownOf b) (secondOf b) P
+  unfolding sheetAnswerOf pairAnswerOf pairCheck optionalCheck
+  paired done P =
+      let some = accepted b done .some has in
+      let both = sheet-optional b done in
+      rw (done, rw some at both)
+
+  never : (P : Point) → numberOf (sheetAnswerOf b P) ≡ 18 → ⊥
+  never P = go (sheetCheck b) refl
+    where
+      other : Numbered (Other 18) (sheetCheck b)
+      other = sheet-numbered (Other 18) (λ n l m e. omega (arith, l, e)) (λ n l m e. omega (arith, m, e)) b
+
+      go : (c : Check) → sheetCheck b ≡ c → numberOf (sheetAnswerOf b P) ≡ 18 → ⊥
+      go Passed c e =
+          pair-never-eighteen-holds (limitOf (gridOf b)) (verticesOf b) (knownOf b) (secondOf b) P
+          (sym (ap numberOf (paired c P)) ∙ e)
+      go (Failed number place) c e = other .each number place c (sym (sheet-answer-refused b P c) ∙ e)
+
+pub sheet-never-eighteen : SheetNeverEighteen
+sheet-never-eighteen b has = (
+  never b has,
+  λ queries buffer done i l e.
+      let results = sheet-feed-equals-single b queries buffer done in
+      never b has _ (sym (results .each i l .number) ∙ e),
+)
+
+-- ---- the edges looked at
+pub sheet-looked-at-most : SheetLookedAtMost
+unfolding sheetLookedOf
+sheet-looked-at-most b P =
+    let X = judgeFrom (knownOf b) (secondOf b) P in
+    let n = intsAt-length b (verticesStart b + 3) (vertexCountOf b * 3) in
+    let few = looked-bounded (limitOf (gridOf b)) (verticesOf b) X P in
+    looked-after (sheetCheck b) (omega (arith, n, few))

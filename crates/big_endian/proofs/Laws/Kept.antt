@@ -62,7 +62,7 @@ module _ (b : List ℕ) (are : AreBytes b) where
       let w-is : n % 256 ≡ w = omega (arith, are (at + 3)) in
       rw (x-is, y-is, z-is, w-is) (bytes-kept b at h)
 
-  wordAt-bound : (at : ℕ) → wordAt b at < 4294967296
+  pub wordAt-bound : (at : ℕ) → wordAt b at < 4294967296
   unfolding wordAt
   wordAt-bound at = omega (arith, are at, are (at + 1), are (at + 2), are (at + 3))
 

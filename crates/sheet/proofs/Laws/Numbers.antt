@@ -1,6 +1,6 @@
--- The numbers of the refusals: a check that fails has a number above the given one, so it is told from success and
--- from 10. Defined: Above. Proved, in order: above-field, above-fields, above-sheet (reading: above 10), above-write
--- (writing: above 9). Such laws of any check are polygon's.
+-- The numbers of the refusals, by any property of them, and that they are above a given one, so that a refusal is told
+-- from success and from 10. Defined: Above. Proved, in order: field-numbered, fields-numbered, sheet-numbered
+-- (reading), above-sheet (above 10), above-write (writing: above 9). Such laws of any check are polygon's.
 use mathlib.Core.Path.{_≡_}
 use mathlib.Core.Bool.{Bool, not}
 use mathlib.Core.List.{List, [], _∷_}
@@ -35,41 +35,49 @@ abbrev pub Above : ℕ → ℕ → Type 0
 Above m number = m < number
 
 -- ---- the fields: 20 to 24
-above-field : (tag : ℕ) (isLength : ℕ → Bool) (b : List ℕ) (at : ℕ) → Numbered (Above 10) (fieldCheck tag isLength b at)
-unfolding fieldCheck
-above-field tag isLength b at =
-    here-numbered 20 at (ltb (length b) (at + 3)) (lit< tt)
-    both here-numbered 21 at (not (eqb (byteAt b at) tag)) (lit< tt)
-    both here-numbered 22 at (not (isLength (shortAt b (at + 1)))) (lit< tt)
-    both here-numbered 20 at (ltb (length b) (fieldEnd b at)) (lit< tt)
+module _ {Is : ℕ → Type 0} (h : (n : ℕ) → 19 < n → n < 25 → Is n) where
+  field-numbered : (tag : ℕ) (isLength : ℕ → Bool) (b : List ℕ) (at : ℕ) → Numbered Is (fieldCheck tag isLength b at)
+  unfolding fieldCheck
+  field-numbered tag isLength b at =
+      here-numbered 20 at (ltb (length b) (at + 3)) (h 20 (lit< tt) (lit< tt))
+      both here-numbered 21 at (not (eqb (byteAt b at) tag)) (h 21 (lit< tt) (lit< tt))
+      both here-numbered 22 at (not (isLength (shortAt b (at + 1)))) (h 22 (lit< tt) (lit< tt))
+      both here-numbered 20 at (ltb (length b) (fieldEnd b at)) (h 20 (lit< tt) (lit< tt))
 
-above-fields : (b : List ℕ) → Numbered (Above 10) (fieldsCheck b)
-unfolding fieldsCheck sheetFields fiveFields charsetCheck secondField restCheck
-above-fields b =
-    ((above-field 1 (isAllowed 4 4 1) b 0
-    both (above-field 2 (isAllowed 1 1 1) b 7 both here-numbered 23 7 (not (isCharset (byteAt b 10))) (lit< tt))
-    both above-field 3 (isAllowed 1 120 1) b 11
-    both above-field 4 (isAllowed 12 12 1) b (knownStart b)
-    both above-field (tagOf (gridOf b)) (isAllowed 36 49152 12) b (verticesStart b))
-    both where-numbered (hasSecond b) (above-field 6 (isAllowed 12 12 1) b (secondStart b)))
-    both here-numbered 24 (sheetEnd b) (ltb (sheetEnd b) (length b)) (lit< tt)
+  fields-numbered : (b : List ℕ) → Numbered Is (fieldsCheck b)
+  unfolding fieldsCheck sheetFields fiveFields charsetCheck secondField restCheck
+  fields-numbered b =
+      ((field-numbered 1 (isAllowed 4 4 1) b 0
+      both (field-numbered 2 (isAllowed 1 1 1) b 7
+      both here-numbered 23 7 (not (isCharset (byteAt b 10))) (h 23 (lit< tt) (lit< tt)))
+      both field-numbered 3 (isAllowed 1 120 1) b 11
+      both field-numbered 4 (isAllowed 12 12 1) b (knownStart b)
+      both field-numbered (tagOf (gridOf b)) (isAllowed 36 49152 12) b (verticesStart b))
+      both where-numbered (hasSecond b) (field-numbered 6 (isAllowed 12 12 1) b (secondStart b)))
+      both here-numbered 24 (sheetEnd b) (ltb (sheetEnd b) (length b)) (h 24 (lit< tt) (lit< tt))
 
 -- ---- reading and writing
-list-above : (b : List ℕ) → fieldsCheck b ≡ Passed → Numbered (Above 10) (listCheck (verticesOf b))
-list-above b e =
+list-numbered-none : {Is : ℕ → Type 0} (b : List ℕ) → fieldsCheck b ≡ Passed → Numbered Is (listCheck (verticesOf b))
+list-numbered-none b e =
     let s = passed-spans b (fields-five b e) in
     let n = intsAt-length b (verticesStart b + 3) (vertexCountOf b * 3) in
     let l : Whole (verticesOf b) = record { threes = omega arith; least = omega arith; most = omega arith } in
     rw (whole-passed (verticesOf b) l) passed-numbered
 
-pub above-sheet : (b : List ℕ) → Numbered (Above 10) (sheetCheck b)
+-- 11 to 16, 19 to 24.
+pub sheet-numbered : (Is : ℕ → Type 0) → ((n : ℕ) → 18 < n → n < 25 → Is n) → ((n : ℕ) → 10 < n → n < 17 → Is n) →
+    (b : List ℕ) → Numbered Is (sheetCheck b)
 unfolding sheetCheck plainCheck sheetSecondCheck
-above-sheet b =
+sheet-numbered Is high low b =
     let limit = limitOf (gridOf b) in
     let vs = verticesOf b in
-    then-numbered (above-fields b)
-    (λ e. accept-numbered (Above 10) limit vs (list-above b e) (λ n l m. l) (knownOf b))
-    both where-numbered (hasSecond b) (second-numbered (Above 10) limit vs (knownOf b) (secondOf b) (lit< tt))
+    then-numbered (fields-numbered (λ n l m. high n (omega (arith, l)) m) b)
+    (λ e. accept-numbered Is limit vs (list-numbered-none b e) low (knownOf b))
+    both where-numbered (hasSecond b)
+    (second-numbered Is limit vs (knownOf b) (secondOf b) (high 19 (lit< tt) (lit< tt)))
+
+pub above-sheet : (b : List ℕ) → Numbered (Above 10) (sheetCheck b)
+above-sheet = sheet-numbered (Above 10) (λ n l m. omega (arith, l)) (λ n l m. l)
 
 pub above-write :
     (charset : ℕ) (name : List ℕ) (known : GridPoint) (g : Grid) (vertices : List ℤ) (second : GridPoint) (room : ℕ) →
