@@ -4,12 +4,14 @@ use std::process::Command;
 use std::{env, fs};
 
 /// The archive's objects; what goes by the grid is compiled for each.
-const OBJECTS: [(&str, &str, &[&str]); 5] = [
+const OBJECTS: [(&str, &str, &[&str]); 7] = [
     ("calls.o", "src/calls.c", &[]),
     ("coarse_outline.o", "src/outline.c", &[]),
     ("coarse_judge.o", "src/judge.c", &[]),
     ("fine_outline.o", "src/outline.c", &["-DFINE"]),
     ("fine_judge.o", "src/judge.c", &["-DFINE"]),
+    ("coarse_basin.o", "src/basin.c", &[]),
+    ("fine_basin.o", "src/basin.c", &["-DFINE"]),
 ];
 
 fn run(program: &str, words: &[&str]) {

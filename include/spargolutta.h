@@ -3,9 +3,10 @@
  *
  * The polygon comes as a zone sheet (bytes) and the query as three whole numbers. Five calls take the same arguments
  * and each fetches one part of the same answer: its number, its place, its count, its sum, the sides looked at. Three
- * more judge a feed, any number of queries to one sheet, and two choose a second known point for a sheet. All work on
- * the coarse grid is in whole numbers. On the fine grid floats decide only where their sign is proved to be right, and
- * whole numbers elsewhere: no answer depends on rounding.
+ * more judge a feed, any number of queries to one sheet, and two choose a second known point for a sheet. Three check
+ * whether an outline is simple, by its vertices alone. All work on the coarse grid is in whole numbers. On the fine
+ * grid floats decide only where their sign is proved to be right, and whole numbers elsewhere: no answer depends on
+ * rounding.
  *
  *     cc client.c $(pkg-config --cflags --libs spargolutta)
  *
@@ -62,13 +63,15 @@ extern "C" {
  * present (20), tag (21; the fifth may be 5 or 7), length (22), body present (20), character set (23). A byte 6 after
  * the vertices starts the sixth field (20, 22), any other is 24, and so is any byte after the sixth. Then come 11 to
  * 16, each over the whole list before the next, and 19; then the query's 17 and 18. The first that holds is given.
- * Here 10 is of candidates alone: in a sheet 22 comes before it. 25 is of writing a sheet and 28 of mixed grids, and
- * these calls never give them. 0, 10, 26 and 27 are never a query's answer.
+ * Of a sheet's calls 10 is of candidates alone: in a sheet 22 comes before it. 25 is of writing a sheet, and no call
+ * here gives it. 0, 10, 26 and 27 are never a query's answer. The basin profile has its own order: 10, 28, 11 to 14,
+ * each over the whole list before the next, 34, 35; no other call gives 28, 34 or 35.
  */
 enum spg_number {
                                 /* meaning                                             place / count                  */
     SPG_DONE = 0,               /* a feed was judged and its results are written                                      */
                                 /* a candidate was chosen                              place: its number              */
+                                /* an outline is simple                                                               */
     SPG_INSIDE = 1,             /* inside                                              count: sides crossed           */
     SPG_OUTSIDE = 2,            /* outside                                             count: sides crossed           */
     SPG_BOUNDARY = 3,           /* on a border side                                    place: lowest such side        */
@@ -88,7 +91,10 @@ enum spg_number {
     SPG_SHEET_CHARSET = 23,     /* unknown character set                               place: where the field begins  */
     SPG_SHEET_TRAILING = 24,    /* bytes after the last field                          place: first such byte         */
     SPG_QUERIES_CUT = 26,       /* a feed's queries are not whole twelves                                             */
-    SPG_RESULTS_SHORT = 27      /* a feed's result buffer is too short                 place: bytes needed            */
+    SPG_RESULTS_SHORT = 27,     /* a feed's result buffer is too short                 place: bytes needed            */
+    SPG_BAD_GRID = 28,          /* the number of a grid is neither 0 nor 1                                            */
+    SPG_TOO_MANY_SIDES = 34,    /* over 512 vertices, for the basin profile                                           */
+    SPG_SIDES_SHARE = 35        /* two sides share a point that they may not           place, count: the two sides    */
 };
 
 /*
@@ -192,6 +198,27 @@ uint32_t spg_feed_count(const uint8_t *sheet, size_t sheet_len, const uint8_t *q
 uint32_t spg_choose_number(const uint8_t *sheet, size_t sheet_len, const uint8_t *candidates, size_t candidates_len);
 size_t spg_choose_place(const uint8_t *sheet, size_t sheet_len, const uint8_t *candidates, size_t candidates_len);
 
+/*
+ * spg_basin_number, spg_basin_place, spg_basin_count: the basin profile. Is an outline of 3 to 512 vertices simple? It
+ * is if no two sides share a point, but for neighbours at their common vertex, where they share nothing more.
+ * Neighbours are sides that follow each other, the last and the first among them. To share means that some direction
+ * lies on both closed arcs; so an outline with a corridor, walked out and back, is not simple.
+ *
+ * vertices, vertices_len  The vertices, 12 bytes each, as in a sheet, and no sheet around them. Any bytes and any
+ *                         length: not whole twelves, or under 3 or over 4,096 vertices, are 10. Not NULL.
+ * grid                    The vertices' grid: 0 for the coarse one, 1 for the fine one; any other number is 28.
+ * Result                  0, place 0, count 0 where the outline is simple. Or 35, with as place the first side of a
+ *                         pair that offends and as count the second: of all such pairs the one whose first side is
+ *                         lowest, then the one whose second is. Or 10, 28, 11 to 14 or 34, with count 0. With equal
+ *                         arguments the three belong together.
+ *
+ * Nothing is written. For the rest as spg_judge_number; grid 1 needs the default rounding mode, as tag 7 does. The time
+ * grows with the square of the number of vertices: 512 of them take about a third of a millisecond.
+ */
+uint32_t spg_basin_number(const uint8_t *vertices, size_t vertices_len, uint32_t grid);
+size_t spg_basin_place(const uint8_t *vertices, size_t vertices_len, uint32_t grid);
+uint32_t spg_basin_count(const uint8_t *vertices, size_t vertices_len, uint32_t grid);
+
 /* A short English text for a number of the table, for logs; for any other, "unknown number". Never NULL. */
 static inline const char *spg_meaning(uint32_t number)
 {
@@ -217,6 +244,9 @@ static inline const char *spg_meaning(uint32_t number)
     case SPG_SHEET_TRAILING: return "bytes after the last field";
     case SPG_QUERIES_CUT: return "queries not whole twelves";
     case SPG_RESULTS_SHORT: return "result buffer too short";
+    case SPG_BAD_GRID: return "grid mixed or unknown";
+    case SPG_TOO_MANY_SIDES: return "over 512 vertices";
+    case SPG_SIDES_SHARE: return "two sides share a point";
     default: return "unknown number";
     }
 }

@@ -3,11 +3,13 @@
  *
  *     client        reads cases (sheet, query) from standard input and prints a line for each.
  *     client choose the same for candidates. A case is the sheet and the candidates.
+ *     client basin  the same for the basin profile. A case is the vertices and the grid's number, four bytes.
  *     client feed   the same for feeds, with the result buffer as the call leaves it, in hexadecimal. A case is the
  *                   sheet, the queries, and a result buffer's bytes.
  *     client long   prints the line of a feed whose queries have more than 32 bits of bytes.
- *     client stack  reads one case of a feed and prints how many bytes of stack a thread needs for all ten calls, with
- *                   the feed's first query for the single ones and all its queries as candidates.
+ *     client stack  reads one case of a feed and prints how many bytes of stack a thread needs for all calls, with the
+ *                   feed's first query for the single ones, all its queries as candidates, and the sheet's vertices,
+ *                   all and 512, for the basin profile.
  *
  * A line begins with number, place, count, sum and sides looked at; those that the calls do not give are 0.
  *
@@ -64,10 +66,34 @@ static void feed(struct judged *j)
     j->number = spg_feed_number(s.at, s.length, q.at, q.length, r.at, r.length);
 }
 
+static void basin_on(struct judged *j, struct bytes vertices, uint32_t grid)
+{
+    j->number = spg_basin_number(vertices.at, vertices.length, grid);
+    j->place = spg_basin_place(vertices.at, vertices.length, grid);
+    j->count = spg_basin_count(vertices.at, vertices.length, grid);
+}
+
+/* The sheet is the vertices alone, and the queries the grid's number. */
+static void basin(struct judged *j)
+{
+    require(j->queries.length == 4, "no grid");
+    basin_on(j, j->sheet, word_at(j->queries.at));
+}
+
+/* The vertices of a sheet whose name has one byte: up to 4,096 of them, and up to 512. */
+static void sheet_basin(struct judged *j)
+{
+    size_t whole = (j->sheet.length - 33) / 12 * 12;
+    size_t lengths[] = {whole < 49152 ? whole : 49152, whole < 6144 ? whole : 6144};
+    for (int k = 0; k < 2; k++)
+        basin_on(j, (struct bytes){j->sheet.at + 33, lengths[k]}, j->sheet.at[30] == 7);
+}
+
 static void *all_calls(void *argument)
 {
     judge(argument);
     choose(argument);
+    sheet_basin(argument);
     feed(argument);
     return NULL;
 }
@@ -198,6 +224,8 @@ int main(int argc, char **argv)
         feed_long(&from);
     else if (strcmp(mode, "stack") == 0)
         print_stack(&from);
+    else if (strcmp(mode, "basin") == 0)
+        answer_cases(&from, basin);
     else
         answer_cases(&from, strcmp(mode, "choose") == 0 ? choose : judge);
     return 0;

@@ -1,5 +1,5 @@
-//! The instructions of a feed call, counted by valgrind's callgrind: a number that other work on the machine leaves
-//! alone.
+//! The instructions of a call, counted by valgrind's callgrind: a number that other work on the machine leaves alone.
+//! Here for feeds.
 
 use crate::feeds::{others, Feed, Work, CONTESTANTS};
 use crate::ratios;
@@ -21,11 +21,13 @@ pub fn feed_once(folder: &Path, contestant: &str) {
     assert_eq!(counted_feed(feed, &sheet, &queries, &mut vec![0; queries.len()]), 0);
 }
 
-/// Millions of instructions; none if there is no valgrind.
-fn count(folder: &Folder, contestant: &str) -> Option<f64> {
-    let mut valgrind = command("valgrind", ["--tool=callgrind", "--toggle-collect=counted_feed"]);
+/// Millions of instructions of the function `counted`, where this program is started with the folder and these words;
+/// none if there is no valgrind.
+pub fn count(folder: &Folder, counted: &str, words: &[&str]) -> Option<f64> {
+    let mut valgrind = command("valgrind", ["--tool=callgrind"]);
+    valgrind.arg(format!("--toggle-collect={counted}"));
     valgrind.arg(format!("--callgrind-out-file={}", folder.path("out").display()));
-    valgrind.arg(env::current_exe().expect("program")).arg(folder.path("")).arg(contestant);
+    valgrind.arg(env::current_exe().expect("program")).arg(folder.path("")).args(words);
     let output = valgrind.output().ok()?;
     let text = String::from_utf8_lossy(&output.stderr);
     let number = text.lines().find_map(|line| line.split("Collected : ").nth(1)?.parse::<f64>().ok());
@@ -39,7 +41,8 @@ pub fn compare(works: &[Work]) {
         let folder = Folder::new("instructions");
         folder.write("sheet", &work.sheet);
         folder.write("queries", &work.queries);
-        let counts: Option<Vec<f64>> = CONTESTANTS.iter().map(|(name, _)| count(&folder, name)).collect();
+        let counts: Option<Vec<f64>> =
+            CONTESTANTS.iter().map(|(name, _)| count(&folder, "counted_feed", &[name])).collect();
         let Some(counts) = counts else { return println!("  not counted: there is no valgrind here") };
         println!("{:>24}: {}", work.name, ratios(&counts, "million"));
     }

@@ -1,8 +1,10 @@
-//! The library against document 02's P2 in checked Rust and in C: one call, the program, a feed on each grid. The
-//! contestants take turns, and the least time of many rounds counts.
+//! The library against document 02's P2 in checked Rust and in C: one call, the program, a feed on each grid; and the
+//! basin profile against C. The contestants take turns, and the least time of many rounds counts.
 //!
-//! Started with a folder and a contestant it makes one feed call: what `instructions` counts.
+//! Started with a folder and a contestant it makes one feed call, or one of the basin profile: what `instructions`
+//! counts.
 
+mod basin;
 mod calls;
 mod feeds;
 mod instructions;
@@ -27,12 +29,17 @@ fn ratios(figures: &[f64], unit: &str) -> String {
 
 fn main() {
     let words: Vec<String> = env::args().skip(1).collect();
-    if let [folder, contestant] = &words[..] {
-        return instructions::feed_once(folder.as_ref(), contestant);
+    match &words[..] {
+        [folder, contestant] => return instructions::feed_once(folder.as_ref(), contestant),
+        [folder, what, grid, contestant] if what == "basin" => {
+            return basin::check_once(folder.as_ref(), grid, contestant)
+        }
+        _ => {}
     }
     println!("Ratios on {}.", processor());
     calls::compare();
     program::compare();
+    basin::compare();
     let works = feeds::works(Grid::Coarse);
     feeds::compare(Grid::Coarse, &works);
     feeds::compare_single_calls();

@@ -49,7 +49,7 @@ fn header() {
         let printed = output_of(&mut Command::new(&program), &[]);
         let meanings: Vec<&str> = printed.lines().collect();
         for (n, meaning) in meanings.iter().enumerate() {
-            let listed = matches!(n, 0..=3 | 10..=24 | 26 | 27);
+            let listed = matches!(n, 0..=3 | 10..=24 | 26..=28 | 34 | 35);
             assert_eq!(*meaning != "unknown number", listed, "{n}");
             assert!(!listed || meanings.iter().filter(|other| *other == meaning).count() == 1, "{n}");
         }
@@ -62,13 +62,13 @@ pub fn row(bytes: &[u8]) -> Vec<u8> {
 }
 
 /// The client, built with the sanitizers.
-fn sanitized_client(folder: &Folder) -> Command {
+pub fn sanitized_client(folder: &Folder) -> Command {
     let sanitize = ["-D_GNU_SOURCE", "-O1", "-g", "-fsanitize=address,undefined"];
     compile(folder, "tests/client.c", &sanitize, &flags())
 }
 
 /// The five numbers that a line begins with.
-fn single_of(line: &str) -> Single {
+pub fn single_of(line: &str) -> Single {
     let words: Vec<i64> = line.split(' ').take(5).map(|word| word.parse().expect("number")).collect();
     let answer = Answer { number: words[0] as u32, place: words[1] as usize, count: words[2] as u32 };
     Single { answer, sum: words[3] as i32, looked: words[4] as u32 }

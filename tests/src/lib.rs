@@ -1,7 +1,7 @@
 //! Host tests: the archive and the program against a second, independent reading of documents
 //! 01 and 02.
 //!
-//! `reference` is that reading, `library` the calls under test. `random`, `sheet` and `islands` make
+//! `reference` is that reading, `library` the calls under test. `random`, `sheet`, `islands` and `stars` make
 //! the inputs, `host` runs programs; the benchmark uses these too. `outlines` and `turns` make inputs for
 //! tests alone: coincidences, and turns that floats get wrong. The other modules are the tests.
 
@@ -11,7 +11,10 @@ pub mod library;
 pub mod random;
 pub mod reference;
 pub mod sheet;
+pub mod stars;
 
+#[cfg(test)]
+mod basin;
 #[cfg(test)]
 mod charts;
 #[cfg(test)]

@@ -1,6 +1,9 @@
 //! The calls of libspargolutta.a, declared as in include/spargolutta.h.
 
 use crate::{Answer, Point, Single};
+pub use basin::{basin, basin_number};
+
+mod basin;
 
 extern "C" {
     fn spg_judge_number(sheet: *const u8, sheet_len: usize, x: i32, y: i32, z: i32) -> u32;

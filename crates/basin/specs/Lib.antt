@@ -1,0 +1,4 @@
+pub mod Shared
+pub mod Pairs
+pub mod Basin
+pub mod Claims
