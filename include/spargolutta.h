@@ -4,9 +4,9 @@
  * The polygon comes as a zone sheet (bytes) and the query as three whole numbers. Five calls take the same arguments
  * and each fetches one part of the same answer: its number, its place, its count, its sum, the sides looked at. Three
  * more judge a feed, any number of queries to one sheet, and two choose a second known point for a sheet. Three check
- * whether an outline is simple, by its vertices alone. All work on the coarse grid is in whole numbers. On the fine
- * grid floats decide only where their sign is proved to be right, and whole numbers elsewhere: no answer depends on
- * rounding.
+ * whether an outline is simple, by its vertices alone, and nine ask about a book, up to 64 sheets joined end to end. All
+ * work on the coarse grid is in whole numbers. On the fine grid floats decide only where their sign is proved to be
+ * right, and whole numbers elsewhere: no answer depends on rounding.
  *
  *     cc client.c $(pkg-config --cflags --libs spargolutta)
  *
@@ -17,7 +17,7 @@
  * coarse grid has the limit 1,048,576 (2^20), and a step of it is about six metres on the Earth: it does for harbours
  * and coasts. The fine grid has the limit 67,108,864 (2^26), and a step of ten centimetres: take it where berths are to
  * be told apart; calls on it take up to a third longer. A sheet says its grid by the tag of its vertices, for all its
- * points. Queries and candidates are on their sheet's grid.
+ * points. Queries and candidates are on their sheet's grid; a query to a book names its own.
  *
  * Side i (edge i) is the shorter arc from vertex i to the next one; the last side goes back to vertex 0. The known
  * point (reference point) is inside by the sheet's own claim. All numbering starts at 0.
@@ -64,14 +64,17 @@ extern "C" {
  * the vertices starts the sixth field (20, 22), any other is 24, and so is any byte after the sixth. Then come 11 to
  * 16, each over the whole list before the next, and 19; then the query's 17 and 18. The first that holds is given.
  * Of a sheet's calls 10 is of candidates alone: in a sheet 22 comes before it. 25 is of writing a sheet, and no call
- * here gives it. 0, 10, 26 and 27 are never a query's answer. The basin profile has its own order: 10, 28, 11 to 14,
- * each over the whole list before the next, 34, 35; no other call gives 28, 34 or 35.
+ * here gives it. 0, 10, 26, 27 and 36 are never the answer to a query by one sheet. The basin profile has its own order:
+ * 10, 28, 11 to 14, each over the whole list before the next, 34, 35; no other call gives 28, 34 or 35. In a book a
+ * sheet on another grid than the query's puts its zone into the set of those refused.
  */
 enum spg_number {
                                 /* meaning                                             place / count                  */
     SPG_DONE = 0,               /* a feed was judged and its results are written                                      */
                                 /* a candidate was chosen                              place: its number              */
                                 /* an outline is simple                                                               */
+                                /* a book was judged                                   count: zones that hold it      */
+                                /* a step found a sheet of a book                      its start / its length         */
     SPG_INSIDE = 1,             /* inside                                              count: sides crossed           */
     SPG_OUTSIDE = 2,            /* outside                                             count: sides crossed           */
     SPG_BOUNDARY = 3,           /* on a border side                                    place: lowest such side        */
@@ -94,7 +97,8 @@ enum spg_number {
     SPG_RESULTS_SHORT = 27,     /* a feed's result buffer is too short                 place: bytes needed            */
     SPG_BAD_GRID = 28,          /* the number of a grid is neither 0 nor 1                                            */
     SPG_TOO_MANY_SIDES = 34,    /* over 512 vertices, for the basin profile                                           */
-    SPG_SIDES_SHARE = 35        /* two sides share a point that they may not           place, count: the two sides    */
+    SPG_SIDES_SHARE = 35,       /* two sides share a point that they may not           place, count: the two sides    */
+    SPG_BOOK_LONG = 36          /* bytes left after 64 sheets of a book                place: first such byte         */
 };
 
 /*
@@ -219,6 +223,58 @@ uint32_t spg_basin_number(const uint8_t *vertices, size_t vertices_len, uint32_t
 size_t spg_basin_place(const uint8_t *vertices, size_t vertices_len, uint32_t grid);
 uint32_t spg_basin_count(const uint8_t *vertices, size_t vertices_len, uint32_t grid);
 
+/*
+ * spg_book_number, spg_book_place, spg_book_count, spg_book_inside, spg_book_boundary, spg_book_refused: which zones of
+ * a book hold a query?
+ *
+ * A book is up to 64 sheets joined end to end, on either grid and mixed. Zone i is its sheet i. A set has one bit a
+ * zone, the first sheet lowest: zone i is in it if (set >> i & 1) is 1.
+ *
+ * book, book_len  The book's bytes. Any bytes and any length will do; an empty book has no zones.
+ * grid            The query's grid: 0 for the coarse one, 1 for the fine one. Any other number matches no sheet.
+ * x, y, z         The query, on that grid. Any numbers will do.
+ * Result          Number 0 and place 0; as count how many zones hold the query; and three sets: of the zones that the
+ *                 query is inside of, that have it on their boundary, and that refuse it. Those are what
+ *                 spg_judge_number says of the sheet by itself: 1, 3, or one of 11 to 19; and a sheet on another grid
+ *                 than the query's is refused too (28). A zone that it is outside of is in none, and no zone is in two.
+ *                 The count is that of the bits in the first two sets.
+ *                 Or the book's refusal, with count 0 and empty sets: 20 to 23 for the earliest sheet that has one,
+ *                 with the place counted from the book's start; or 36 for bytes left after 64 sheets, whatever they
+ *                 are. What would be 24 in a sheet by itself starts the next sheet. With equal arguments all six belong
+ *                 together.
+ *
+ * Nothing is written. The pointer may not be NULL, even where the length is 0. For the rest as spg_judge_number. Each
+ * call checks and judges every sheet: for many queries to one book, a feed to each of its sheets is far quicker
+ * (examples/which_harbour.c).
+ */
+uint32_t spg_book_number(const uint8_t *book, size_t book_len, uint32_t grid, int32_t x, int32_t y, int32_t z);
+size_t spg_book_place(const uint8_t *book, size_t book_len, uint32_t grid, int32_t x, int32_t y, int32_t z);
+uint32_t spg_book_count(const uint8_t *book, size_t book_len, uint32_t grid, int32_t x, int32_t y, int32_t z);
+uint64_t spg_book_inside(const uint8_t *book, size_t book_len, uint32_t grid, int32_t x, int32_t y, int32_t z);
+uint64_t spg_book_boundary(const uint8_t *book, size_t book_len, uint32_t grid, int32_t x, int32_t y, int32_t z);
+uint64_t spg_book_refused(const uint8_t *book, size_t book_len, uint32_t grid, int32_t x, int32_t y, int32_t z);
+/*
+ * spg_book_next_number, spg_book_next_place, spg_book_next_count: one step over a book, from the byte `at`. The caller
+ * keeps the place: 0 at first, and after each step larger by the count.
+ *
+ * Result          0, and the sheet that begins there: its start, which is `at`, as place, its length as count. Or one
+ *                 of 20 to 23 with its place, counted from the book's start, and count 0, so that the reader stays. At
+ *                 or past the end, which is any `at` from book_len on, all three are 0.
+ *
+ * A step looks at the fields of that sheet alone (20 to 23): 11 to 19 are left to the calls on it, and there may be any
+ * number of sheets.
+ *
+ *     size_t at = 0, size;
+ *     while ((size = spg_book_next_count(book, book_len, at)) > 0) {
+ *         // the sheet: book + at, of size bytes
+ *         at += size;
+ *     }
+ *     // at == book_len, or spg_book_next_number(book, book_len, at) says what is wrong there
+ */
+uint32_t spg_book_next_number(const uint8_t *book, size_t book_len, size_t at);
+size_t spg_book_next_place(const uint8_t *book, size_t book_len, size_t at);
+size_t spg_book_next_count(const uint8_t *book, size_t book_len, size_t at);
+
 /* A short English text for a number of the table, for logs; for any other, "unknown number". Never NULL. */
 static inline const char *spg_meaning(uint32_t number)
 {
@@ -247,6 +303,7 @@ static inline const char *spg_meaning(uint32_t number)
     case SPG_BAD_GRID: return "grid mixed or unknown";
     case SPG_TOO_MANY_SIDES: return "over 512 vertices";
     case SPG_SIDES_SHARE: return "two sides share a point";
+    case SPG_BOOK_LONG: return "bytes left after 64 sheets";
     default: return "unknown number";
     }
 }

@@ -4,14 +4,16 @@
  *     client        reads cases (sheet, query) from standard input and prints a line for each.
  *     client choose the same for candidates. A case is the sheet and the candidates.
  *     client basin  the same for the basin profile. A case is the vertices and the grid's number, four bytes.
+ *     client book   the same for books. A case is the book, and the query with its grid's number before it.
  *     client feed   the same for feeds, with the result buffer as the call leaves it, in hexadecimal. A case is the
  *                   sheet, the queries, and a result buffer's bytes.
  *     client long   prints the line of a feed whose queries have more than 32 bits of bytes.
  *     client stack  reads one case of a feed and prints how many bytes of stack a thread needs for all calls, with the
- *                   feed's first query for the single ones, all its queries as candidates, and the sheet's vertices,
- *                   all and 512, for the basin profile.
+ *                   feed's first query for the single ones, all its queries as candidates, the sheet's vertices, all
+ *                   and 512, for the basin profile, and the sheet as a book.
  *
- * A line begins with number, place, count, sum and sides looked at; those that the calls do not give are 0.
+ * A line begins with number, place, count, sum and sides looked at; those that the calls do not give are 0. A book's
+ * goes on with its three sets.
  *
  * The parts of a case are rows of cases.h. All that is lent stands once right before a page that may not be touched and
  * once right behind one, on pages that can only be read while it is judged; but for the result buffer: see feed_placed.
@@ -19,6 +21,7 @@
  */
 #include "rooms.h"
 
+#include <inttypes.h>
 #include <pthread.h>
 #include <spargolutta.h>
 #include <stdbool.h>
@@ -34,6 +37,7 @@ struct judged {
     uint32_t number, count, looked;
     size_t place;
     int32_t sum;
+    uint64_t inside, boundary, refused;
 };
 
 /* The first of the queries. */
@@ -56,6 +60,30 @@ static void choose(struct judged *j)
     struct bytes s = j->sheet, c = j->queries;
     j->number = spg_choose_number(s.at, s.length, c.at, c.length);
     j->place = spg_choose_place(s.at, s.length, c.at, c.length);
+}
+
+/* The sheet is a book. The steps over it are taken too: they find its sheets, and end where it ends or is refused. */
+static void ask_book(struct judged *j, uint32_t grid, const uint8_t *q)
+{
+    struct bytes b = j->sheet;
+    int32_t x = (int32_t)word_at(q), y = (int32_t)word_at(q + 4), z = (int32_t)word_at(q + 8);
+    j->number = spg_book_number(b.at, b.length, grid, x, y, z);
+    j->place = spg_book_place(b.at, b.length, grid, x, y, z);
+    j->count = spg_book_count(b.at, b.length, grid, x, y, z);
+    j->inside = spg_book_inside(b.at, b.length, grid, x, y, z);
+    j->boundary = spg_book_boundary(b.at, b.length, grid, x, y, z);
+    j->refused = spg_book_refused(b.at, b.length, grid, x, y, z);
+    size_t at = 0, size;
+    for (; (size = spg_book_next_count(b.at, b.length, at)) > 0; at += size)
+        require(spg_book_next_number(b.at, b.length, at) == SPG_DONE && spg_book_next_place(b.at, b.length, at) == at,
+                "a step that is no sheet");
+    require(j->number != SPG_DONE || at == b.length, "the steps do not end with the book");
+}
+
+static void book(struct judged *j)
+{
+    require(j->queries.length >= 16, "no query");
+    ask_book(j, word_at(j->queries.at), j->queries.at + 4);
 }
 
 static void feed(struct judged *j)
@@ -91,10 +119,13 @@ static void sheet_basin(struct judged *j)
 
 static void *all_calls(void *argument)
 {
-    judge(argument);
-    choose(argument);
-    sheet_basin(argument);
-    feed(argument);
+    struct judged *j = argument;
+    judge(j);
+    choose(j);
+    sheet_basin(j);
+    ask_book(j, 0, j->queries.at);
+    ask_book(j, 1, j->queries.at);
+    feed(j);
     return NULL;
 }
 
@@ -114,7 +145,8 @@ static void print_answer(const struct judged *j, char after)
 static bool same_answer(const struct judged *j, const struct judged *k)
 {
     return j->number == k->number && j->place == k->place && j->count == k->count && j->sum == k->sum
-           && j->looked == k->looked;
+           && j->looked == k->looked && j->inside == k->inside && j->boundary == k->boundary
+           && j->refused == k->refused;
 }
 
 static void answer_cases(struct judged *from, void (*call)(struct judged *))
@@ -129,7 +161,9 @@ static void answer_cases(struct judged *from, void (*call)(struct judged *))
         last.queries = lend(queries, from->queries, true);
         call(&last);
         require(same_answer(&first, &last), "the answer depends on where the bytes stand");
-        print_answer(&last, '\n');
+        print_answer(&last, call == book ? ' ' : '\n');
+        if (call == book)
+            printf("%" PRIu64 " %" PRIu64 " %" PRIu64 "\n", last.inside, last.boundary, last.refused);
     }
 }
 
@@ -227,6 +261,6 @@ int main(int argc, char **argv)
     else if (strcmp(mode, "basin") == 0)
         answer_cases(&from, basin);
     else
-        answer_cases(&from, strcmp(mode, "choose") == 0 ? choose : judge);
+        answer_cases(&from, strcmp(mode, "choose") == 0 ? choose : strcmp(mode, "book") == 0 ? book : judge);
     return 0;
 }

@@ -1,10 +1,12 @@
-//! The library against document 02's P2 in checked Rust and in C: one call, the program, a feed on each grid; and the
-//! basin profile against C. The contestants take turns, and the least time of many rounds counts.
+//! The library against document 02's P2 in checked Rust and in C: one call, the program, a feed on each grid; the basin
+//! profile against C; and a book against single calls on its sheets. The contestants take turns, and the least time of
+//! many rounds counts.
 //!
-//! Started with a folder and a contestant it makes one feed call, or one of the basin profile: what `instructions`
-//! counts.
+//! Started with a folder and a contestant it makes one feed call, one of the basin profile, or asks one book: what
+//! `instructions` counts.
 
 mod basin;
+mod book;
 mod calls;
 mod feeds;
 mod instructions;
@@ -30,6 +32,7 @@ fn ratios(figures: &[f64], unit: &str) -> String {
 fn main() {
     let words: Vec<String> = env::args().skip(1).collect();
     match &words[..] {
+        [folder, contestant] if book::ask_once(folder.as_ref(), contestant) => return,
         [folder, contestant] => return instructions::feed_once(folder.as_ref(), contestant),
         [folder, what, grid, contestant] if what == "basin" => {
             return basin::check_once(folder.as_ref(), grid, contestant)
@@ -47,4 +50,5 @@ fn main() {
     let works = feeds::works(Grid::Fine);
     feeds::compare(Grid::Fine, &works);
     instructions::compare(&works);
+    book::compare();
 }

@@ -33,6 +33,19 @@ fn flags_of(pkg_config_file: &str) -> String {
     flags
 }
 
+/// Installs under a prefix in the folder: what pkg-config says of the library there.
+pub fn install(folder: &Folder) -> Vec<String> {
+    let prefix = folder.path("prefix");
+    // The archive is there: `-o lib` keeps make from making it again.
+    let mut make = command("make", ["--no-print-directory", "-o", "lib", "install"]);
+    make.args([format!("PREFIX={}", prefix.display()), "DESTDIR=".to_string()]);
+    output_of(make.env_remove("MAKEFLAGS").current_dir(repository("")), &[]);
+    let flags = installed_flags(&prefix);
+    let file = fs::read_to_string(prefix.join("lib/pkgconfig/spargolutta.pc")).expect("file");
+    assert_eq!(flags_of(&file).split_whitespace().collect::<Vec<_>>(), flags);
+    flags
+}
+
 /// The importer, and the folder that it is run in.
 struct Importer {
     program: Command,
@@ -43,14 +56,7 @@ impl Importer {
     /// Installs under a temporary prefix and compiles the importer with what pkg-config says.
     fn new(folder: &str) -> Importer {
         let folder = Folder::new(folder);
-        let prefix = folder.path("prefix");
-        // The archive is there: `-o lib` keeps make from making it again.
-        let mut make = command("make", ["--no-print-directory", "-o", "lib", "install"]);
-        make.args([format!("PREFIX={}", prefix.display()), "DESTDIR=".to_string()]);
-        output_of(make.env_remove("MAKEFLAGS").current_dir(repository("")), &[]);
-        let flags = installed_flags(&prefix);
-        let file = fs::read_to_string(prefix.join("lib/pkgconfig/spargolutta.pc")).expect("file");
-        assert_eq!(flags_of(&file).split_whitespace().collect::<Vec<_>>(), flags);
+        let flags = install(&folder);
         Importer { program: compile(&folder, "examples/importer.c", &[], &flags), folder }
     }
 

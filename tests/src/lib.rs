@@ -16,6 +16,8 @@ pub mod stars;
 #[cfg(test)]
 mod basin;
 #[cfg(test)]
+mod book;
+#[cfg(test)]
 mod charts;
 #[cfg(test)]
 mod client;
@@ -46,6 +48,8 @@ mod second_point;
 #[cfg(test)]
 mod turns;
 #[cfg(test)]
+mod which_harbour;
+#[cfg(test)]
 mod winding;
 #[cfg(test)]
 mod yardstick;
@@ -67,4 +71,13 @@ pub struct Single {
     pub answer: Answer,
     pub sum: i32,
     pub looked: u32,
+}
+
+/// What a book's calls give for one query (document 02, P10): the answer, and three sets, bit i for zone i.
+#[derive(Clone, Copy, Debug, PartialEq, Eq)]
+pub struct Which {
+    pub answer: Answer,
+    pub inside: u64,
+    pub boundary: u64,
+    pub refused: u64,
 }

@@ -1,5 +1,7 @@
 //! The calls of libspargolutta.a, declared as in include/spargolutta.h.
 
+pub mod book;
+
 use crate::{Answer, Point, Single};
 pub use basin::{basin, basin_number};
 

@@ -1,9 +1,10 @@
 //! Documents 01 and 02 in plain Rust, from their text alone: 128-bit integers, and the shortest code
 //! that says what the documents say. The parts stand in their order, under their words: `geometry` has
 //! points and sides, `fields` the bytes of a sheet, `requests` what document 02 adds to the calls, `basin`
-//! its P9.
+//! its P9, `book` its P10.
 
 mod basin;
+pub mod book;
 mod fields;
 mod geometry;
 mod requests;

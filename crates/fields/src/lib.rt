@@ -189,7 +189,7 @@ pub fn sheet_fields(b: &[u8]) -> Check
 }
 
 // Where a sheet ends whose fields are sound.
-fn sheet_end(b: &[u8]) -> usize
+pub fn sheet_end(b: &[u8]) -> usize
     requires { ⌜ sheetFields (now b) ≡ Passed ⌝ }
     ensures { λ r. ⌜ (r ≡ sheetEnd (now (b .entry))) × (r ≤ length (now (b .entry))) ⌝ }
 {
