@@ -73,7 +73,7 @@ module _ (b : List ℕ) (e : sheetCheck b ≡ Passed) where
       let rest = then-passed (sheetFields b) (restCheck b) (sheet-fields b e) .1 in
       ltb-false (sheetEnd b) (length b) (here-passed 24 (sheetEnd b) _ rest)
 
-  second-some : hasSecond b ≡ true → isNull (secondOf b) ≡ false
+  pub second-some : hasSecond b ≡ true → isNull (secondOf b) ≡ false
   second-some has =
       let beside = sym (sheet-second b (sheet-plain b e)) ∙ e in
       let passed = sym (second-present b has .1) ∙ beside in

@@ -1,5 +1,5 @@
 -- Decoding a row of numbers, one a turn.
--- Proved, in order: intsAt-length, intsAt-snoc, filled-none, filled-more.
+-- Proved, in order: intsAt-length, intsAt-number (one number of the row), intsAt-snoc, filled-none, filled-more.
 use mathlib.Core.Path.{_≡_, refl, sym, ap, _∙_}
 use mathlib.Core.List.{List, [], _∷_, _++_, append-assoc}
 use Prim.Native.Nat.{ℕ, zero, suc, _+_, _*_, _<_}
@@ -14,6 +14,15 @@ pub intsAt-length : (b : List ℕ) (at n : ℕ) → length (intsAt b at n) ≡ n
 unfolding intsAt
 intsAt-length b at zero = refl
 intsAt-length b at (suc n) = ap suc (intsAt-length b (at + 4) n)
+
+-- Number j of the row stands four bytes behind the one before it.
+pub intsAt-number : (b : List ℕ) (at n j : ℕ) → j < n → getD (intsAt b at n) j (pos 0) ≡ intAt b (at + j * 4)
+unfolding intsAt
+intsAt-number b at zero j h = absurd (omega arith)
+intsAt-number b at (suc n) zero h = let e : at ≡ at + 0 * 4 = omega arith in ap (intAt b) e
+intsAt-number b at (suc n) (suc j) h =
+    let e : at + 4 + j * 4 ≡ at + suc j * 4 = omega arith in
+    intsAt-number b (at + 4) n j (omega arith) ∙ ap (intAt b) e
 
 -- One number more, at the end.
 pub intsAt-snoc : (b : List ℕ) (at n : ℕ) → intsAt b at (suc n) ≡ intsAt b at n ++ (intAt b (at + n * 4) ∷ [])

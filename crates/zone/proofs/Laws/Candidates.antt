@@ -1,17 +1,17 @@
--- Candidates in bytes (document 02, P4). Proved, in order: int-at, candidate-point (candidate i stands at byte 12i),
+-- Candidates in bytes (document 02, P4). Proved, in order: candidate-point (candidate i stands at byte 12i),
 -- candidates-whole, candidates-count; chosen-accepted (choosing, where the polygon is accepted), choose-short,
 -- choose-passed, choose-failed (how choosing by a sheet ends).
 use mathlib.Core.Path.{_≡_, sym, ap, _∙_}
 use mathlib.Core.Bool.{true}
 use mathlib.Core.List.{List}
-use Prim.Native.Nat.{ℕ, zero, suc, _+_, _*_, _%_, _<_}
+use Prim.Native.Nat.{ℕ, _+_, _*_, _%_, _<_}
 use native.Mathlib.Omega.{arith}
 use borrow.Author.Tests.{eq-eqb, ne-eqb}
-use lib.IntN.{ℤ, pos}
-use lib.ListN.{length, getD}
+use lib.IntN.{ℤ}
+use lib.ListN.{length}
 use Rattle.sphere.specs.declared.point.Point.{Point}
 use Rattle.sphere.specs.Point.{limitOf}
-use Rattle.big_endian.specs.Bytes.{intAt, intsAt, pointAt}
+use Rattle.big_endian.specs.Bytes.{pointAt}
 use Rattle.big_endian.proofs.Laws.Rows.{intsAt-length}
 use Rattle.answer.specs.declared.Found.{Found}
 use Rattle.answer.specs.declared.Answer.the-variants.{Refused}
@@ -24,30 +24,15 @@ use Rattle.answer.proofs.Laws.Chain.{after-then}
 use Rattle.fields.specs.Fields.{gridOf, fieldsCheck}
 use Rattle.sheet.specs.Sheet.{knownOf, verticesOf, plainCheck}
 use Rattle.zone.specs.Choose.{candidateCount, candidatesOf, wholeCheck, sheetChooseOf}
+use Rattle.sheet.proofs.Laws.Points.{row-point}
 use Rattle.sheet.proofs.Laws.Reads.{plain-passed}
 
 -- ---- candidate i
-int-at : (b : List ℕ) (at n j : ℕ) → j < n → getD (intsAt b at n) j (pos 0) ≡ intAt b (at + j * 4)
-unfolding intsAt
-int-at b at zero j h = absurd (omega arith)
-int-at b at (suc n) zero h = let e : at ≡ at + 0 * 4 = omega arith in ap (intAt b) e
-int-at b at (suc n) (suc j) h =
-    let e : at + 4 + j * 4 ≡ at + suc j * 4 = omega arith in
-    int-at b (at + 4) n j (omega arith) ∙ ap (intAt b) e
-
 pub candidate-point : (candidates : List ℕ) (i : ℕ) → i < candidateCount candidates →
     vertexAt (candidatesOf candidates) i ≡ pointAt candidates (i * 12)
-unfolding vertexAt pointAt
 candidate-point candidates i h =
-    let n = candidateCount candidates * 3 in
-    let x : 0 + i * 3 * 4 ≡ i * 12 = omega arith in
-    let y : 0 + (i * 3 + 1) * 4 ≡ i * 12 + 4 = omega arith in
-    let z : 0 + (i * 3 + 2) * 4 ≡ i * 12 + 8 = omega arith in
-    λ k. record {
-      x = (int-at candidates 0 n (i * 3) (omega arith) ∙ ap (intAt candidates) x) k;
-      y = (int-at candidates 0 n (i * 3 + 1) (omega arith) ∙ ap (intAt candidates) y) k;
-      z = (int-at candidates 0 n (i * 3 + 2) (omega arith) ∙ ap (intAt candidates) z) k;
-    }
+    let front : 0 + i * 12 ≡ i * 12 = omega arith in
+    row-point candidates 0 (candidateCount candidates) i h ∙ ap (pointAt candidates) front
 
 -- ---- all of them
 candidates-length : (candidates : List ℕ) → length (candidatesOf candidates) ≡ candidateCount candidates * 3
