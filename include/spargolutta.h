@@ -3,10 +3,10 @@
  *
  * The polygon comes as a zone sheet (bytes) and the query as three whole numbers. Five calls take the same arguments
  * and each fetches one part of the same answer: its number, its place, its count, its sum, the sides looked at. Three
- * more judge a feed, any number of queries to one sheet, and two choose a second known point for a sheet. Three check
- * whether an outline is simple, by its vertices alone, and nine ask about a book, up to 64 sheets joined end to end. All
- * work on the coarse grid is in whole numbers. On the fine grid floats decide only where their sign is proved to be
- * right, and whole numbers elsewhere: no answer depends on rounding.
+ * more judge a feed, any number of queries to one sheet, two choose a second known point for a sheet, and five compare
+ * two sheets. Three check whether an outline is simple, by its vertices alone, and nine ask about a book, up to 64
+ * sheets joined end to end. All work on the coarse grid is in whole numbers. On the fine grid floats decide only where
+ * their sign is proved to be right, and whole numbers elsewhere: no answer depends on rounding.
  *
  *     cc client.c $(pkg-config --cflags --libs spargolutta)
  *
@@ -75,6 +75,7 @@ enum spg_number {
                                 /* an outline is simple                                                               */
                                 /* a book was judged                                   count: zones that hold it      */
                                 /* a step found a sheet of a book                      its start / its length         */
+                                /* two sheets were compared                            see spg_compare_number         */
     SPG_INSIDE = 1,             /* inside                                              count: sides crossed           */
     SPG_OUTSIDE = 2,            /* outside                                             count: sides crossed           */
     SPG_BOUNDARY = 3,           /* on a border side                                    place: lowest such side        */
@@ -274,6 +275,41 @@ uint64_t spg_book_refused(const uint8_t *book, size_t book_len, uint32_t grid, i
 uint32_t spg_book_next_number(const uint8_t *book, size_t book_len, size_t at);
 size_t spg_book_next_place(const uint8_t *book, size_t book_len, size_t at);
 size_t spg_book_next_count(const uint8_t *book, size_t book_len, size_t at);
+
+/*
+ * spg_compare_number, spg_compare_place, spg_compare_count, spg_compare_way, spg_compare_fields: what two sheets differ
+ * in, and where the right one's ring starts.
+ *
+ * left, left_len    Any bytes, any length, as sheet and sheet_len above.
+ * right, right_len  The same.
+ * Result            0 where both sheets are good; else the left sheet's refusal or, if that is good, the right sheet's
+ *                   (20 to 24, 11 to 16, 19), with its place, and count, way and fields 0. The sheets may be on
+ *                   different grids. With equal arguments the five belong together.
+ *
+ *     count   the number of fields that differ
+ *     fields  the numbers of these fields, rising, one to a byte: the first in the lowest byte, 0 after the last.
+ *             1 to 5 are the fields with these tags (5 also stands for tag 7), 6 is the grid, 7 the second known point
+ *     way     1 if the right ring is the left one, perhaps started elsewhere; 2 if it is the left one run backwards; 0
+ *             if it is another ring, and exactly then field 5 differs
+ *     place   the vertex of the right ring that meets the left's vertex 0, with way 1 or 2 the lowest such vertex of
+ *             that way; with way 0 the first vertex number whose points differ, one that a ring lacks included
+ *
+ * Points are compared by direction, on the same grid or not: longer vectors are no difference. A second point that only
+ * one sheet has is one. Way 1 is looked for before way 2, and the place is given also where the rings are the same.
+ *
+ * Nothing is written. No pointer may be NULL, even where its length is 0. For the rest as spg_judge_number, but for the
+ * time: it is that of checking both sheets where a ring was redrawn; two rings of 4,096 vertices that are not the same
+ * can take over a thousand times as long (docs/DECISIONS.md has figures).
+ *
+ *     uint64_t fields = spg_compare_fields(left, left_len, right, right_len);
+ *     for (; fields != 0; fields >>= 8)
+ *         printf("field %d differs\n", (int)(fields & 0xff));
+ */
+uint32_t spg_compare_number(const uint8_t *left, size_t left_len, const uint8_t *right, size_t right_len);
+size_t spg_compare_place(const uint8_t *left, size_t left_len, const uint8_t *right, size_t right_len);
+uint32_t spg_compare_count(const uint8_t *left, size_t left_len, const uint8_t *right, size_t right_len);
+uint32_t spg_compare_way(const uint8_t *left, size_t left_len, const uint8_t *right, size_t right_len);
+uint64_t spg_compare_fields(const uint8_t *left, size_t left_len, const uint8_t *right, size_t right_len);
 
 /* A short English text for a number of the table, for logs; for any other, "unknown number". Never NULL. */
 static inline const char *spg_meaning(uint32_t number)

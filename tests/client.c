@@ -5,15 +5,16 @@
  *     client choose the same for candidates. A case is the sheet and the candidates.
  *     client basin  the same for the basin profile. A case is the vertices and the grid's number, four bytes.
  *     client book   the same for books. A case is the book, and the query with its grid's number before it.
+ *     client compare the same for two sheets. A case is the left one and the right one.
  *     client feed   the same for feeds, with the result buffer as the call leaves it, in hexadecimal. A case is the
  *                   sheet, the queries, and a result buffer's bytes.
  *     client long   prints the line of a feed whose queries have more than 32 bits of bytes.
  *     client stack  reads one case of a feed and prints how many bytes of stack a thread needs for all calls, with the
  *                   feed's first query for the single ones, all its queries as candidates, the sheet's vertices, all
- *                   and 512, for the basin profile, and the sheet as a book.
+ *                   and 512, for the basin profile, and the sheet as a book and compared with itself.
  *
- * A line begins with number, place, count, sum and sides looked at; those that the calls do not give are 0. A book's
- * goes on with its three sets.
+ * A line begins with number, place, count, sum (of two sheets: the way) and sides looked at; those that the calls do
+ * not give are 0. A book's goes on with its three sets, that of two sheets with the fields.
  *
  * The parts of a case are rows of cases.h. All that is lent stands once right before a page that may not be touched and
  * once right behind one, on pages that can only be read while it is judged; but for the result buffer: see feed_placed.
@@ -38,6 +39,7 @@ struct judged {
     size_t place;
     int32_t sum;
     uint64_t inside, boundary, refused;
+    uint64_t fields;
 };
 
 /* The first of the queries. */
@@ -86,6 +88,17 @@ static void book(struct judged *j)
     ask_book(j, word_at(j->queries.at), j->queries.at + 4);
 }
 
+/* The queries are the right sheet. */
+static void compare(struct judged *j)
+{
+    struct bytes l = j->sheet, r = j->queries;
+    j->number = spg_compare_number(l.at, l.length, r.at, r.length);
+    j->place = spg_compare_place(l.at, l.length, r.at, r.length);
+    j->count = spg_compare_count(l.at, l.length, r.at, r.length);
+    j->sum = (int32_t)spg_compare_way(l.at, l.length, r.at, r.length);
+    j->fields = spg_compare_fields(l.at, l.length, r.at, r.length);
+}
+
 static void feed(struct judged *j)
 {
     struct bytes s = j->sheet, q = j->queries, r = j->results;
@@ -120,6 +133,10 @@ static void sheet_basin(struct judged *j)
 static void *all_calls(void *argument)
 {
     struct judged *j = argument;
+    struct judged twice = *j;
+    twice.queries = twice.sheet;
+    compare(&twice);
+    require(twice.number == SPG_DONE && twice.count == 0, "the sheet differs from itself");
     judge(j);
     choose(j);
     sheet_basin(j);
@@ -146,7 +163,7 @@ static bool same_answer(const struct judged *j, const struct judged *k)
 {
     return j->number == k->number && j->place == k->place && j->count == k->count && j->sum == k->sum
            && j->looked == k->looked && j->inside == k->inside && j->boundary == k->boundary
-           && j->refused == k->refused;
+           && j->refused == k->refused && j->fields == k->fields;
 }
 
 static void answer_cases(struct judged *from, void (*call)(struct judged *))
@@ -161,9 +178,11 @@ static void answer_cases(struct judged *from, void (*call)(struct judged *))
         last.queries = lend(queries, from->queries, true);
         call(&last);
         require(same_answer(&first, &last), "the answer depends on where the bytes stand");
-        print_answer(&last, call == book ? ' ' : '\n');
+        print_answer(&last, call == book || call == compare ? ' ' : '\n');
         if (call == book)
             printf("%" PRIu64 " %" PRIu64 " %" PRIu64 "\n", last.inside, last.boundary, last.refused);
+        if (call == compare)
+            printf("%" PRIu64 "\n", last.fields);
     }
 }
 
@@ -260,6 +279,8 @@ int main(int argc, char **argv)
         print_stack(&from);
     else if (strcmp(mode, "basin") == 0)
         answer_cases(&from, basin);
+    else if (strcmp(mode, "compare") == 0)
+        answer_cases(&from, compare);
     else
         answer_cases(&from, strcmp(mode, "choose") == 0 ? choose : strcmp(mode, "book") == 0 ? book : judge);
     return 0;

@@ -8,6 +8,7 @@
 mod basin;
 mod book;
 mod calls;
+mod comparisons;
 mod feeds;
 mod instructions;
 mod plain_c;
@@ -51,4 +52,5 @@ fn main() {
     feeds::compare(Grid::Fine, &works);
     instructions::compare(&works);
     book::compare();
+    comparisons::compare();
 }

@@ -7,7 +7,7 @@ use crate::outlines::{sheet_and_queries, Numbers::Within, Source};
 use crate::random::Random;
 use crate::second_point::stored;
 use crate::sheet::{point_bytes, points_bytes, Grid, Sheet, GRIDS};
-use crate::{damage, reference, Answer, Point, Single};
+use crate::{damage, library, reference, Answer, Comparison, Point, Single};
 use std::process::Command;
 
 const STRICT: [&str; 4] = ["-Wall", "-Wextra", "-Werror", "-pedantic"];
@@ -166,6 +166,39 @@ fn choose_guard_pages() {
         tally.count(expected.number);
     }
     tally.report("candidates, guard pages", 4_000, [0, 10, 13, 16, 19, 20, 21, 22, 24]);
+}
+
+/// Two sheets at the very ends of pages: good ones and damaged ones, on either side.
+#[test]
+fn compare_guard_pages() {
+    let folder = Folder::new("compare-pages");
+    let random = &mut Random::new(84);
+    let sheets: Vec<Vec<u8>> = damage::all_cases().into_iter().step_by(60).map(|(sheet, _)| sheet).collect();
+    let mut cases: Vec<[Vec<u8>; 2]> = vec![];
+    for _ in 0..3_000 {
+        let source = any_source(random);
+        let sheet = sheet_and_queries(random, source, 12, 0).0.bytes();
+        cases.push([sheet.clone(), sheets[random.below(sheets.len())].clone()]);
+        cases.push([sheet.clone(), sheet]);
+    }
+    cases.extend(sheets.windows(2).map(|pair| [pair[0].clone(), pair[1].clone()]));
+    let input: Vec<u8> = cases.iter().flat_map(|pair| [row(&pair[0]), row(&pair[1])].concat()).collect();
+    let printed = output_of(sanitized_client(&folder).arg("compare"), &input);
+    assert_eq!(printed.lines().count(), cases.len());
+    let mut tally = Tally::default();
+    for (line, [left, right]) in printed.lines().zip(&cases) {
+        let words: Vec<u64> = line.split(' ').map(|word| word.parse().expect("number")).collect();
+        let found = Comparison {
+            number: words[0] as u32,
+            place: words[1] as usize,
+            count: words[2] as u32,
+            way: words[3] as u32,
+            fields: library::field_bytes(words[5]),
+        };
+        assert_eq!(found, reference::compare(left, right), "{left:02x?} {right:02x?}");
+        tally.count(found.number);
+    }
+    tally.report("comparisons, guard pages", 6_000, [0, 13, 16, 20, 21, 22, 24]);
 }
 
 /// More than 2^32 bytes needed: the place is not cut to 32 bits.

@@ -26,6 +26,8 @@ mod compare;
 #[cfg(test)]
 mod damage;
 #[cfg(test)]
+mod differences;
+#[cfg(test)]
 mod feed;
 #[cfg(test)]
 mod grids;
@@ -80,4 +82,14 @@ pub struct Which {
     pub inside: u64,
     pub boundary: u64,
     pub refused: u64,
+}
+
+/// What comparing two sheets gives (document 02, P11).
+#[derive(Clone, Copy, Debug, Default, PartialEq, Eq)]
+pub struct Comparison {
+    pub number: u32,
+    pub place: usize,
+    pub count: u32,
+    pub way: u32,
+    pub fields: [u8; 7],
 }

@@ -2,7 +2,7 @@
 
 pub mod book;
 
-use crate::{Answer, Point, Single};
+use crate::{Answer, Comparison, Point, Single};
 pub use basin::{basin, basin_number};
 
 mod basin;
@@ -107,5 +107,38 @@ pub fn choose(sheet: &[u8], candidates: &[u8]) -> Answer {
         number: unsafe { spg_choose_number(sheet.as_ptr(), sheet.len(), c, c_len) },
         place: unsafe { spg_choose_place(sheet.as_ptr(), sheet.len(), c, c_len) },
         count: 0,
+    }
+}
+
+extern "C" {
+    fn spg_compare_number(left: *const u8, left_len: usize, right: *const u8, right_len: usize) -> u32;
+    fn spg_compare_place(left: *const u8, left_len: usize, right: *const u8, right_len: usize) -> usize;
+    fn spg_compare_count(left: *const u8, left_len: usize, right: *const u8, right_len: usize) -> u32;
+    fn spg_compare_way(left: *const u8, left_len: usize, right: *const u8, right_len: usize) -> u32;
+    fn spg_compare_fields(left: *const u8, left_len: usize, right: *const u8, right_len: usize) -> u64;
+}
+
+pub fn compare_number(left: &[u8], right: &[u8]) -> u32 {
+    unsafe { spg_compare_number(left.as_ptr(), left.len(), right.as_ptr(), right.len()) }
+}
+
+/// Seven bytes of a number of eight, the first the lowest. The eighth is 0.
+pub fn field_bytes(fields: u64) -> [u8; 7] {
+    let [named @ .., rest] = fields.to_le_bytes();
+    assert_eq!(rest, 0);
+    named
+}
+
+/// Document 02's P11.
+pub fn compare(left: &[u8], right: &[u8]) -> Comparison {
+    let (l, l_len, r, r_len) = (left.as_ptr(), left.len(), right.as_ptr(), right.len());
+    unsafe {
+        Comparison {
+            number: spg_compare_number(l, l_len, r, r_len),
+            place: spg_compare_place(l, l_len, r, r_len),
+            count: spg_compare_count(l, l_len, r, r_len),
+            way: spg_compare_way(l, l_len, r, r_len),
+            fields: field_bytes(spg_compare_fields(l, l_len, r, r_len)),
+        }
     }
 }

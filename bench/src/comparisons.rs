@@ -1,0 +1,37 @@
+//! Two sheets of 4,096 vertices compared: a ring that was started elsewhere, and the costliest, of which every second
+//! start agrees up to the last vertex.
+
+use spargolutta_tests::islands::{islands, Extent};
+use spargolutta_tests::library;
+use spargolutta_tests::sheet::Sheet;
+use std::time::Instant;
+
+const ROUNDS: usize = 20;
+
+/// Milliseconds a call, least of the rounds.
+fn measure(left: &[u8], right: &[u8], way: u32) -> f64 {
+    assert_eq!(library::compare(left, right).way, way);
+    let mut least = f64::INFINITY;
+    for _ in 0..ROUNDS {
+        let start = Instant::now();
+        assert_eq!(library::compare_number(left, right), 0);
+        least = least.min(1e3 * start.elapsed().as_secs_f64());
+    }
+    least
+}
+
+pub fn compare() {
+    let islands = islands(1, 4_096, Extent::Archipelago);
+    let left = Sheet::new(islands.known, &islands.vertices);
+    let mut right = left.clone();
+    right.vertices.rotate_left(1_000);
+    let started = measure(&left.bytes(), &right.bytes(), 1);
+    let read = measure(&left.bytes(), &left.bytes(), 1);
+    let [a, b, c] = [[1, 0, 9], [0, 1, 9], [1, 1, 9]];
+    let right = Sheet::new([-1, -2, 9], &[a, b].repeat(2_048));
+    let mut left = right.clone();
+    left.vertices[4_095] = c;
+    let costliest = measure(&left.bytes(), &right.bytes(), 0);
+    println!("Two sheets of 4,096 vertices compared, ms, least of {ROUNDS} rounds:");
+    println!("    equal {read:.3}, started elsewhere {started:.3}, the costliest {costliest:.1}");
+}

@@ -1,0 +1,4 @@
+pub mod Laws
+pub mod RingClaims
+pub mod Fields
+pub mod Claims

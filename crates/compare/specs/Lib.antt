@@ -1,0 +1,4 @@
+pub mod Ring
+pub mod Differences
+pub mod Comparison
+pub mod Claims
