@@ -44,6 +44,8 @@ mod outlines;
 #[cfg(test)]
 mod program;
 #[cfg(test)]
+mod redraw;
+#[cfg(test)]
 mod rounding;
 #[cfg(test)]
 mod second_point;

@@ -1,0 +1,11 @@
+pub mod Directions
+pub mod Rings
+pub mod Counts
+pub mod Alike
+pub mod Added
+pub mod Halves
+pub mod Classes
+pub mod Lengths
+pub mod Claims
+pub mod Pair
+pub mod Examples

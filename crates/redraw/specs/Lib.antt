@@ -1,0 +1,4 @@
+pub mod Redraw
+pub mod Examples
+pub mod Claims
+pub mod PairClaims
