@@ -1,4 +1,5 @@
--- The boxes beside a polygon, built where it is accepted. Defined, in order: BoxRoom, boxedAfter.
+-- The boxes beside a polygon, built where it is accepted: for the code alone, no call's statement needs it. Defined, in
+-- order: BoxRoom, boxedAfter.
 use mathlib.Core.List.{List}
 use Prim.Native.Nat.{_*_, _≤_}
 use lib.IntN.{ℤ}

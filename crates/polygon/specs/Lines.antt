@@ -1,5 +1,6 @@
 -- Document 01's lines 11 to 14 as one check, with the line as its parameter. Defined, in order: lineNumber, lineCheck,
--- isRefused, Ready. Each line's own definition is in specs/Checks; that they are one search: proofs/Laws/Lines.
+-- isRefused, Ready. For the code alone: each line's own definition is in specs/Checks; that they are one search:
+-- proofs/Laws/Lines.
 use mathlib.Core.Bool.{Bool}
 use mathlib.Core.List.{List}
 use Prim.{Unit}

@@ -1,5 +1,6 @@
--- The arc from the reference point to a query. Defined, in order: arcOf, SoundArc (the points and the plane belong
--- together), AcceptedArc, Searchable (what a search by that arc wants). That arcOf is sound: proofs/Laws/Arc.
+-- The arc from the reference point to a query: for the code alone. Defined, in order: arcOf, SoundArc (the points and
+-- the plane belong together), AcceptedArc, Searchable (what a search by that arc wants). That arcOf is sound:
+-- proofs/Laws/Arc.
 use mathlib.Core.Bool.{Bool}
 use mathlib.Core.Path.{_≡_}
 use mathlib.Core.List.{List}

@@ -1,5 +1,5 @@
--- Scans past edges that cannot matter. Defined, in order: stopOf, stopFrom (where a scan stops), Scanning; sideOf,
--- Sided, Strict, isNear, lastInner (by sides of a plane); isOneSided, EndSides, NearFrom (by an arc).
+-- Scans past edges that cannot matter: for the code alone. Defined, in order: stopOf, stopFrom (where a scan stops),
+-- Scanning; sideOf, Sided, Strict, isNear, lastInner (by sides of a plane); isOneSided, EndSides, NearFrom (by an arc).
 use mathlib.Core.Path.{_≡_}
 use mathlib.Core.Bool.{Bool, true, not, cond}
 use mathlib.Core.List.{List}

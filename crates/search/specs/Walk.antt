@@ -46,6 +46,8 @@ reach (At edge) i k = suc edge - i
 unfoldable pub lookedFrom : List ℤ → Point → Point → ℕ → ℕ → ℕ
 lookedFrom vs X P i k = countFrom (isLooked vs X P) i (reach (firstFrom (isOnBorder vs P) i k) i k)
 
+-- ---- for the code alone: how the number of edges looked at is worked out
+
 -- By what the search over n edges said; and that the edge it names is one of them.
 abbrev pub reachOf : Tally → ℕ → ℕ
 reachOf (Held edge) n = suc edge
