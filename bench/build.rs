@@ -4,10 +4,11 @@ use std::process::Command;
 use std::{env, fs};
 
 /// The archive's objects; what goes by the grid is compiled for each.
-const OBJECTS: [(&str, &str, &[&str]); 7] = [
+const OBJECTS: [(&str, &str, &[&str]); 8] = [
     ("calls.o", "src/calls.c", &[]),
     ("coarse_outline.o", "src/outline.c", &[]),
     ("coarse_judge.o", "src/judge.c", &[]),
+    ("geojson.o", "src/geojson.c", &[]),
     ("fine_outline.o", "src/outline.c", &["-DFINE"]),
     ("fine_judge.o", "src/judge.c", &["-DFINE"]),
     ("coarse_basin.o", "src/basin.c", &[]),
@@ -36,5 +37,6 @@ fn main() {
     cc(&["src/zone_judge.c", &archive, "-o", &program]);
     println!("cargo:rustc-link-search=native={out}");
     println!("cargo:rustc-link-lib=static=judge");
+    println!("cargo:rustc-link-lib=m");
     println!("cargo:rerun-if-changed=src");
 }

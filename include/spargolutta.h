@@ -5,8 +5,9 @@
  * and each fetches one part of the same answer: its number, its place, its count, its sum, the sides looked at. Three
  * more judge a feed, any number of queries to one sheet, two choose a second known point for a sheet, and five compare
  * two sheets. Three check whether an outline is simple, by its vertices alone, and nine ask about a book, up to 64
- * sheets joined end to end. All work on the coarse grid is in whole numbers. On the fine grid floats decide only where
- * their sign is proved to be right, and whole numbers elsewhere: no answer depends on rounding.
+ * sheets joined end to end. Two make a sheet from a GeoJSON text, and four give the grid numbers of a longitude and a
+ * latitude. All judging on the coarse grid is in whole numbers. On the fine grid floats decide only where their sign is
+ * proved to be right, and whole numbers elsewhere: no answer depends on rounding.
  *
  *     cc client.c $(pkg-config --cflags --libs spargolutta)
  *
@@ -43,8 +44,8 @@
  * finds one that does. A library from before tag 6 refuses a sheet that has it, with 24, and one from before tag 7
  * refuses that with 21.
  *
- * Calls on a sheet with tag 7 need the default rounding mode of floats, to nearest (fesetround(FE_TONEAREST)), which a
- * program has unless it sets another. Calls on a sheet with tag 5 work in any.
+ * Calls on a sheet with tag 7, and imports, need the default rounding mode of floats, to nearest
+ * (fesetround(FE_TONEAREST)), which a program has unless it sets another. Calls on a sheet with tag 5 work in any.
  */
 #ifndef SPARGOLUTTA_H
 #define SPARGOLUTTA_H
@@ -63,10 +64,11 @@ extern "C" {
  * present (20), tag (21; the fifth may be 5 or 7), length (22), body present (20), character set (23). A byte 6 after
  * the vertices starts the sixth field (20, 22), any other is 24, and so is any byte after the sixth. Then come 11 to
  * 16, each over the whole list before the next, and 19; then the query's 17 and 18. The first that holds is given.
- * Of a sheet's calls 10 is of candidates alone: in a sheet 22 comes before it. 25 is of writing a sheet, and no call
- * here gives it. 0, 10, 26, 27 and 36 are never the answer to a query by one sheet. The basin profile has its own order:
- * 10, 28, 11 to 14, each over the whole list before the next, 34, 35; no other call gives 28, 34 or 35. In a book a
- * sheet on another grid than the query's puts its zone into the set of those refused.
+ * Of a sheet's calls 10 is of candidates alone: in a sheet 22 comes before it. An import (spg_import_number) gives 30,
+ * 31, 32 and 33 in this order, and then what writing a sheet refuses: 23, 22, 10 to 16, 25. 0, 10, 25 to 27 and 30 to 36
+ * are never the answer to a query by one sheet. The basin profile has its own order: 10, 28, 11 to 14, each over the
+ * whole list before the next, 34, 35; no other call gives 28, 34 or 35. In a book a sheet on another grid than the
+ * query's puts its zone into the set of those refused.
  */
 enum spg_number {
                                 /* meaning                                             place / count                  */
@@ -76,6 +78,7 @@ enum spg_number {
                                 /* a book was judged                                   count: zones that hold it      */
                                 /* a step found a sheet of a book                      its start / its length         */
                                 /* two sheets were compared                            see spg_compare_number         */
+                                /* a text was imported and its sheet is written        place: the sheet's length      */
     SPG_INSIDE = 1,             /* inside                                              count: sides crossed           */
     SPG_OUTSIDE = 2,            /* outside                                             count: sides crossed           */
     SPG_BOUNDARY = 3,           /* on a border side                                    place: lowest such side        */
@@ -94,9 +97,14 @@ enum spg_number {
     SPG_SHEET_LENGTH = 22,      /* length not allowed                                  place: where the field begins  */
     SPG_SHEET_CHARSET = 23,     /* unknown character set                               place: where the field begins  */
     SPG_SHEET_TRAILING = 24,    /* bytes after the last field                          place: first such byte         */
+    SPG_SHEET_SHORT = 25,       /* an import's buffer is too short for the sheet       place: bytes needed            */
     SPG_QUERIES_CUT = 26,       /* a feed's queries are not whole twelves                                             */
     SPG_RESULTS_SHORT = 27,     /* a feed's result buffer is too short                 place: bytes needed            */
     SPG_BAD_GRID = 28,          /* the number of a grid is neither 0 nor 1                                            */
+    SPG_NOT_A_TEXT = 30,        /* not a text that can be imported                     place: see spg_import_number   */
+    SPG_POSITION_OUTSIDE = 31,  /* latitude past 90 or longitude past 180 degrees      place: lowest such position    */
+    SPG_RING_OPEN = 32,         /* the ring is not closed or has under four positions                                 */
+    SPG_POSITIONS_FAR = 33,     /* neighbours more than one degree apart               place: the earlier position    */
     SPG_TOO_MANY_SIDES = 34,    /* over 512 vertices, for the basin profile                                           */
     SPG_SIDES_SHARE = 35,       /* two sides share a point that they may not           place, count: the two sides    */
     SPG_BOOK_LONG = 36          /* bytes left after 64 sheets of a book                place: first such byte         */
@@ -311,6 +319,46 @@ uint32_t spg_compare_count(const uint8_t *left, size_t left_len, const uint8_t *
 uint32_t spg_compare_way(const uint8_t *left, size_t left_len, const uint8_t *right, size_t right_len);
 uint64_t spg_compare_fields(const uint8_t *left, size_t left_len, const uint8_t *right, size_t right_len);
 
+/*
+ * spg_import_number, spg_import_place: a zone sheet from a GeoJSON text, on the coarse grid and with no second point.
+ *
+ * text, text_len    One RFC 7946 Polygon: an object with exactly the members "type" ("Polygon") and "coordinates", in
+ *                   either order, without escapes in its strings, with white space around tokens or none. One ring of
+ *                   any number of positions, each two numbers, longitude first, in degrees, with at most seven decimals
+ *                   and no exponent. Holes are drawn with corridors, and a ring over the 180th degree is cut there. The
+ *                   last position equals the first and is dropped. Sides here are arcs, and RFC 7946's are straight in
+ *                   degrees: so neighbours are at most one degree apart in each coordinate, as plain numbers.
+ *                   Any bytes and any length will do: what is not such a text gets 30.
+ * zone, charset     Tags 1 and 2 of the sheet. A charset other than 1 to 3 is 23, place 0.
+ * name, name_len    Tag 3, 1 to 120 bytes; other lengths are 22, place 0.
+ * known_x, _y, _z   Tag 4: a point inside, on the coarse grid; spg_point_x and so on give it from degrees.
+ * sheet, sheet_len  The buffer, 32 bytes and the name's and 12 for each vertex; the place of 25 says how many.
+ *                   spg_import_place takes its length alone.
+ * Result            0, and as place the sheet's length; or a refusal. The place of 30 is the length of the longest
+ *                   beginning that a text of the kind above can have: its first wrong byte, or the text's length if it
+ *                   stops too early. Positions are numbered from 0 and the last one counts. With equal arguments the
+ *                   two belong together, and the count is always 0.
+ *
+ * spg_import_number writes, and it alone: with 0 the sheet into the first bytes of the buffer, and nothing else. The
+ * buffer must not overlap the text or the name. No pointer may be NULL, even where its length is 0. For the rest as
+ * spg_judge_number: no state, nothing allocated, less than 64 KiB of stack. The sheet's vertices are the grid numbers
+ * that spg_point_x, _y and _z give for the text's positions. Floats are needed in the default rounding mode.
+ *
+ * spg_point_number, spg_point_x, spg_point_y, spg_point_z: the grid numbers of a position on its own, in ten-millionths
+ * of a degree. The number is 0, or 31 where the position is out of range; then the grid numbers are 0. Each of them is
+ * within one of 2^20 times (cos lat cos lon, cos lat sin lon, sin lat), and multiples of 90 degrees are exact. An
+ * importer's stops come by these calls, so that a stop drawn on a vertex of the zone is on the boundary.
+ */
+uint32_t spg_import_number(const uint8_t *text, size_t text_len, uint32_t zone, uint32_t charset, const uint8_t *name,
+                           size_t name_len, int32_t known_x, int32_t known_y, int32_t known_z, uint8_t *sheet,
+                           size_t sheet_len);
+size_t spg_import_place(const uint8_t *text, size_t text_len, uint32_t zone, uint32_t charset, const uint8_t *name,
+                        size_t name_len, int32_t known_x, int32_t known_y, int32_t known_z, size_t sheet_len);
+uint32_t spg_point_number(int32_t longitude, int32_t latitude);
+int32_t spg_point_x(int32_t longitude, int32_t latitude);
+int32_t spg_point_y(int32_t longitude, int32_t latitude);
+int32_t spg_point_z(int32_t longitude, int32_t latitude);
+
 /* A short English text for a number of the table, for logs; for any other, "unknown number". Never NULL. */
 static inline const char *spg_meaning(uint32_t number)
 {
@@ -334,12 +382,17 @@ static inline const char *spg_meaning(uint32_t number)
     case SPG_SHEET_LENGTH: return "length not allowed in the sheet";
     case SPG_SHEET_CHARSET: return "unknown character set";
     case SPG_SHEET_TRAILING: return "bytes after the last field";
+    case SPG_SHEET_SHORT: return "buffer too short for the sheet";
     case SPG_QUERIES_CUT: return "queries not whole twelves";
     case SPG_RESULTS_SHORT: return "result buffer too short";
     case SPG_BAD_GRID: return "grid mixed or unknown";
     case SPG_TOO_MANY_SIDES: return "over 512 vertices";
     case SPG_SIDES_SHARE: return "two sides share a point";
     case SPG_BOOK_LONG: return "bytes left after 64 sheets";
+    case SPG_NOT_A_TEXT: return "not one GeoJSON Polygon of the kind that is read";
+    case SPG_POSITION_OUTSIDE: return "latitude past 90 or longitude past 180 degrees";
+    case SPG_RING_OPEN: return "ring not closed or under four positions";
+    case SPG_POSITIONS_FAR: return "neighbours more than one degree apart";
     default: return "unknown number";
     }
 }

@@ -1,4 +1,4 @@
-/* The C contestants' own answer, and the calls that give it: on one grid, see judge.c; on the sheet's, see calls.c. */
+/* The C contestants' own answer, and the calls that give it: on one grid, see judge.c; on the sheet's, see calls.c; import: geojson.c. */
 #include <stddef.h>
 #include <stdint.h>
 
@@ -14,3 +14,6 @@ typedef answer feed_call(const uint8_t *sheet, size_t sheet_len, const uint8_t *
 
 judge_call coarse_judge, fine_judge, c_judge;
 feed_call coarse_feed, fine_feed, c_feed;
+
+answer c_import(const uint8_t *text, size_t text_len, uint32_t zone, uint32_t charset, const uint8_t *name,
+                size_t name_len, int32_t x, int32_t y, int32_t z, uint8_t *sheet, size_t sheet_len);

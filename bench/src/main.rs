@@ -1,15 +1,16 @@
 //! The library against document 02's P2 in checked Rust and in C: one call, the program, a feed on each grid; the basin
-//! profile against C; and a book against single calls on its sheets. The contestants take turns, and the least time of
-//! many rounds counts.
+//! profile and an import against C; and a book against single calls on its sheets. The contestants take turns, and the
+//! least time of many rounds counts.
 //!
-//! Started with a folder and a contestant it makes one feed call, one of the basin profile, or asks one book: what
-//! `instructions` counts.
+//! Started with a folder and a contestant it makes one feed call, one of the basin profile, one import, or asks one
+//! book: what `instructions` counts.
 
 mod basin;
 mod book;
 mod calls;
 mod comparisons;
 mod feeds;
+mod geojson;
 mod instructions;
 mod plain_c;
 mod program;
@@ -38,6 +39,7 @@ fn main() {
         [folder, what, grid, contestant] if what == "basin" => {
             return basin::check_once(folder.as_ref(), grid, contestant)
         }
+        [folder, _, contestant] => return geojson::import_once(folder.as_ref(), contestant),
         _ => {}
     }
     println!("Ratios on {}.", processor());
@@ -53,4 +55,5 @@ fn main() {
     instructions::compare(&works);
     book::compare();
     comparisons::compare();
+    geojson::compare();
 }

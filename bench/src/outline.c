@@ -38,7 +38,7 @@ static inline size_t first_edge(edge_test *bad, const outline *o)
     return i;
 }
 
-static answer check(const outline *o)
+answer ON_GRID(check)(const outline *o)
 {
     size_t i;
     if ((i = first_vertex(beyond, o)) < o->n)
@@ -120,7 +120,7 @@ answer ON_GRID(open)(const uint8_t *sheet, size_t sheet_len, outline *o)
     for (size_t i = 0; i < o->n; i++)
         o->ring[i] = point_at(sheet + body[5] + 12 * i);
     o->ring[o->n] = o->ring[0];
-    refusal = check(o);
+    refusal = ON_GRID(check)(o);
     if (refusal.number != 0)
         return refusal;
     for (size_t first = 0; first < o->n; first += RUN)

@@ -34,5 +34,8 @@ static inline point point_at(const uint8_t *bytes)
     return (point){(int32_t)word_at(bytes), (int32_t)word_at(bytes + 4), (int32_t)word_at(bytes + 8)};
 }
 
+/* Lines 11 to 16, of an outline without its boxes; number 0 if it passes. */
+answer ON_GRID(check)(const outline *o);
+
 /* Reads and checks the sheet and builds the boxes; number 0 if it is good. */
 answer ON_GRID(open)(const uint8_t *sheet, size_t sheet_len, outline *o);

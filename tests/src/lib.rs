@@ -1,11 +1,12 @@
 //! Host tests: the archive and the program against a second, independent reading of documents
 //! 01 and 02.
 //!
-//! `reference` is that reading, `library` the calls under test. `random`, `sheet`, `islands` and `stars` make
-//! the inputs, `host` runs programs; the benchmark uses these too. `outlines` and `turns` make inputs for
-//! tests alone: coincidences, and turns that floats get wrong. The other modules are the tests.
+//! `reference` is that reading, `library` and `imports` the calls under test. `random`, `sheet`, `islands` and
+//! `stars` make the inputs, `host` runs programs; the benchmark uses these too. `outlines` and `turns` make inputs
+//! for tests alone: coincidences, and turns that floats get wrong. The other modules are the tests.
 
 pub mod host;
+pub mod imports;
 pub mod islands;
 pub mod library;
 pub mod random;
@@ -29,6 +30,10 @@ mod damage;
 mod differences;
 #[cfg(test)]
 mod feed;
+#[cfg(test)]
+mod fractions;
+#[cfg(test)]
+mod geojson;
 #[cfg(test)]
 mod grids;
 #[cfg(test)]

@@ -1,13 +1,14 @@
 //! Documents 01 and 02 in plain Rust, from their text alone: 128-bit integers, and the shortest code
 //! that says what the documents say. The parts stand in their order, under their words: `geometry` has
 //! points and sides, `fields` the bytes of a sheet, `requests` what document 02 adds to the calls, `basin`
-//! its P9, `book` its P10, `differences` its P11.
+//! its P9, `book` its P10, `differences` its P11, `import` its P7.
 
 mod basin;
 pub mod book;
 mod differences;
 mod fields;
 mod geometry;
+mod import;
 mod requests;
 
 use crate::{Answer, Point};
@@ -16,6 +17,7 @@ pub use differences::compare;
 use fields::{fields, points, Zone};
 use geometry::{all_zero, beyond, crossing, on_side, opposite, same_direction, sides, Vector};
 pub use geometry::{cross, turn, vector};
+pub use import::import;
 pub use requests::{choose, feed, single};
 use requests::{judged, passes};
 

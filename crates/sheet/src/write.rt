@@ -1,6 +1,6 @@
 // Writing a sheet, from any input into any buffer.
-// Here, in order: input_check (23, 22, 10, 28, 11 to 16, 19), second_size, bytes_needed, write (25 too). A second point
-// of all zero is none, and has no grid.
+// Here, in order: input_check (23, 22, 10, 28, 11 to 16, 19), second_size, bytes_needed, write_answer (25 too; nothing
+// is written), write. A second point of all zero is none, and has no grid.
 ghost use mathlib.Core.Path.{_≡_};
 ghost use Prim.Native.Nat.{_≤_};
 ghost use lib.ListN.{length};
@@ -57,6 +57,36 @@ fn bytes_needed(name: &[u8], vertices: &[i32], second: Point) -> usize
     ensures { λ r. ⌜ r ≡ bytesNeeded (now (name .entry)) (now (vertices .entry)) second ⌝ }
 {
     32 + name.len() + vertices.len() * 4 + second_size(second)
+}
+
+// What `write` would answer with `room` bytes for the sheet.
+pub fn write_answer(
+    charset: u32,
+    name: &[u8],
+    known: GridPoint,
+    grid: Grid,
+    vertices: &[i32],
+    second: GridPoint,
+    room: usize,
+) -> Answer
+    ensures { λ r.
+        ⌜ r ≡ writeOf charset (now (name .entry)) known grid (now (vertices .entry)) second room ⌝ }
+{
+    if let Check::Failed(number, place) = input_check(
+        charset,
+        name,
+        known,
+        grid,
+        vertices,
+        second,
+    ) {
+        return Answer::Refused(number, place);
+    }
+    let needed = bytes_needed(name, vertices, second.point);
+    if room < needed {
+        return Answer::Refused(25, needed);
+    }
+    Answer::Done(needed)
 }
 
 // Writes a sheet into the first bytes of the buffer. A refusal changes none.

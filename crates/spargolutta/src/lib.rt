@@ -1,7 +1,8 @@
 // The C boundary: functions over a sheet's bytes and a query's three numbers, or a feed's or candidates' bytes, each
 // returning one number. Declared for C in include/spargolutta.h; nothing checks that declaration against this source.
-// Only spg_feed_number writes, and nothing is kept between calls. `outline` has the functions over vertices alone,
-// `books` those over a book of sheets, `comparison` those over two sheets.
+// Only spg_feed_number and spg_import_number write, and nothing is kept between calls. `outline` has the functions over
+// vertices alone, `books` those over a book of sheets, `comparison` those over two sheets, `imports` those over a
+// GeoJSON text and a position.
 ghost use mathlib.Core.Path.{_≡_};
 ghost use lib.ListN.{length};
 ghost use Rattle.answer.specs.Answer.{numberOf, placeOf, countOf, sumOf};
@@ -11,6 +12,7 @@ ghost use Rattle.spargolutta.specs.Query.{queryOf};
 
 pub mod books;
 pub mod comparison;
+pub mod imports;
 mod outline;
 
 use answer::Answer;

@@ -1,0 +1,76 @@
+-- Document 02, P7: 30 to 33 of a text, and its list of grid numbers. Defined, in order: textCheck (30), importCheck (30
+-- to 33), verticesOf; putOf, startOf, stepOf, outOf, finishOf, scannedOf, Listed (the code's).
+use mathlib.Core.Path.{_≡_}
+use mathlib.Core.Bool.{Bool, cond}
+use mathlib.Core.List.{List, [], _∷_}
+use Prim.Native.Nat.{ℕ, _+_, _-_, _*_, min}
+use lib.Dec.{ltb}
+use lib.IntN.{ℤ}
+use lib.ListN.{length, take}
+use lib.Seq.{sets}
+use Rattle.answer.specs.declared.Check.{Check}
+use Rattle.answer.specs.declared.Check.the-variants.{Passed, Failed}
+use Rattle.answer.specs.Chain.{_then_}
+use Rattle.positions.specs.declared.grammar.Reading.{Reading}
+use Rattle.positions.specs.declared.grammar.Reading.the-variants.{Whole, Dead}
+use Rattle.positions.specs.Text.{start, read}
+use Rattle.angles.specs.declared.point.Position.{Position}
+use Rattle.angles.specs.Point.{gridNumbersOf}
+use Rattle.positions.specs.Number.{fresh, pendingOf, isEnd, positionOf, positionsOf, held}
+use Rattle.positions.specs.Ring.{ringCheck, keptOf, emptyRing, addedOf, checkOf}
+use Rattle.geojson.specs.declared.scan.Reader.{Reader}
+use Rattle.geojson.specs.declared.scan.Scanned.{Scanned}
+use Rattle.geojson.specs.declared.scan.Scanned.the-variants.{Kept, Refused}
+
+-- Three numbers for each position, as a polygon's list has them.
+unfoldable pub numbersOf : List Position → List ℤ
+numbersOf [] = []
+numbersOf (p ∷ ps) = gridNumbersOf p .x ∷ gridNumbersOf p .y ∷ gridNumbersOf p .z ∷ numbersOf ps
+
+-- 30: the text is not one of document 02's.
+abbrev pub unread : Reading → Check
+unread Whole = Passed
+unread (Dead place) = Failed 30 place
+
+unfoldable pub textCheck : List ℕ → Check
+textCheck text = unread (read text start 0 (length text))
+
+unfoldable pub importCheck : List ℕ → Check
+importCheck text = textCheck text then ringCheck (positionsOf text)
+
+-- The vertices: every position but the last.
+unfoldable pub verticesOf : List ℕ → List ℤ
+verticesOf text = numbersOf (keptOf (positionsOf text))
+
+-- ---- the code's, one byte after the other
+
+unfoldable pub putOf : List ℤ → ℕ → Position → List ℤ
+putOf out k p = cond (ltb k 4097) (sets out (k * 3) (numbersOf (p ∷ []))) out
+
+abbrev pub startOf : Reader
+startOf = record { pending = fresh; ring = emptyRing }
+
+unfoldable pub stepOf : Reader → ℕ → Reader
+stepOf r b =
+    cond (isEnd (r .pending) b)
+    (record { pending = fresh; ring = addedOf (r .ring) (positionOf (r .pending)) })
+    (record { pending = pendingOf held (r .pending) b; ring = r .ring })
+
+unfoldable pub outOf : Reader → ℕ → List ℤ → List ℤ
+outOf r b out = cond (isEnd (r .pending) b) (putOf out (r .ring .count) (positionOf (r .pending))) out
+
+abbrev pub scannedAfter : Check → ℕ → Scanned
+scannedAfter Passed n = Kept n
+scannedAfter (Failed number place) n = Refused number place
+
+unfoldable pub finishOf : Reader → Scanned
+finishOf r = scannedAfter (checkOf (r .ring)) (r .ring .count - 1)
+
+unfoldable pub scannedOf : List ℕ → Scanned
+scannedOf text = scannedAfter (importCheck text) (length (positionsOf text) - 1)
+
+-- The list's front holds the vertices, at most 4,097 of them.
+abbrev pub Listed : Scanned → List ℕ → List ℤ → Type 0
+Listed (Refused number place) text out = length out ≡ 12291
+Listed (Kept n) text out =
+    (length out ≡ 12291) × (take (min n 4097 * 3) out ≡ take (min n 4097 * 3) (verticesOf text))

@@ -1,0 +1,121 @@
+/*
+ * import_zone: a zone sheet from a GeoJSON file.
+ *
+ *     import_zone GEOJSON ZONE NAME LONGITUDE LATITUDE SHEET
+ *
+ * GEOJSON is a file with one RFC 7946 Polygon, as spargolutta.h says. ZONE is the zone's number and NAME its name, in
+ * UTF-8. LONGITUDE and LATITUDE are those of the known point, a place inside, in degrees with up to seven decimals.
+ * SHEET is the file to write.
+ *
+ * Ends with 0 if the sheet was written, 1 if something was refused (and why goes to standard error; no file is written),
+ * 2 if a file could not be read or written or the words are not as above.
+ *
+ *     cc -o import_zone import_zone.c $(pkg-config --cflags --libs spargolutta)
+ */
+#include <errno.h>
+#include <spargolutta.h>
+#include <stdbool.h>
+#include <stdio.h>
+#include <stdlib.h>
+#include <string.h>
+
+#define TEXT_MOST (1 << 22) /* the longest file that is read */
+
+static uint8_t text[TEXT_MOST + 1];
+static uint8_t sheet[49304]; /* 4,096 vertices and a name of 120 bytes */
+
+static void exit_with(const char *path)
+{
+    perror(path);
+    exit(2);
+}
+
+static size_t read_text(const char *path)
+{
+    FILE *file = fopen(path, "rb");
+    if (file == NULL)
+        exit_with(path);
+    size_t length = fread(text, 1, sizeof text, file);
+    if (ferror(file))
+        exit_with(path);
+    fclose(file);
+    if (length > TEXT_MOST) {
+        fprintf(stderr, "%s: longer than %d bytes\n", path, TEXT_MOST);
+        exit(2);
+    }
+    return length;
+}
+
+static void write_sheet(const char *path, size_t length)
+{
+    FILE *file = fopen(path, "wb");
+    if (file == NULL)
+        exit_with(path);
+    if (fwrite(sheet, 1, length, file) != length || fclose(file) != 0)
+        exit_with(path);
+}
+
+/* Degrees with up to seven decimals, in ten-millionths: in whole numbers, so that nothing is rounded. */
+static bool read_angle(const char *word, int32_t *angle)
+{
+    bool negative = *word == '-';
+    long long value = 0;
+    int decimals = -1; /* none before the point */
+    word += negative;
+    if (*word < '0' || '9' < *word)
+        return false;
+    for (; *word != '\0'; word++) {
+        if (*word == '.' && decimals < 0) {
+            decimals = 0;
+            continue;
+        }
+        if (*word < '0' || '9' < *word || value > 999999999)
+            return false;
+        value = 10 * value + (*word - '0');
+        decimals += decimals >= 0;
+    }
+    for (decimals = decimals < 0 ? 0 : decimals; decimals < 7 && value <= INT32_MAX; decimals++)
+        value *= 10;
+    if (decimals != 7 || value > INT32_MAX)
+        return false;
+    *angle = (int32_t)(negative ? -value : value);
+    return true;
+}
+
+static bool read_zone(const char *word, uint32_t *zone)
+{
+    char *end;
+    errno = 0;
+    unsigned long long value = strtoull(word, &end, 10);
+    *zone = (uint32_t)value;
+    return '0' <= *word && *word <= '9' && *end == '\0' && errno == 0 && value <= UINT32_MAX;
+}
+
+static int refuse(const char *what, uint32_t number, size_t place)
+{
+    fprintf(stderr, "refused: %s: %s (%u), place %zu\n", what, spg_meaning(number), (unsigned)number, place);
+    return 1;
+}
+
+int main(int argc, char **argv)
+{
+    uint32_t zone;
+    int32_t lon, lat;
+    if (argc != 7 || !read_zone(argv[2], &zone) || !read_angle(argv[4], &lon) || !read_angle(argv[5], &lat)) {
+        fprintf(stderr, "usage: import_zone GEOJSON ZONE NAME LONGITUDE LATITUDE SHEET\n");
+        return 2;
+    }
+    if (spg_point_number(lon, lat) != SPG_DONE)
+        return refuse("known point", spg_point_number(lon, lat), 0);
+    int32_t x = spg_point_x(lon, lat), y = spg_point_y(lon, lat), z = spg_point_z(lon, lat);
+
+    size_t text_len = read_text(argv[1]);
+    const uint8_t *name = (const uint8_t *)argv[3];
+    size_t name_len = strlen(argv[3]);
+    uint32_t number = spg_import_number(text, text_len, zone, 1, name, name_len, x, y, z, sheet, sizeof sheet);
+    size_t place = spg_import_place(text, text_len, zone, 1, name, name_len, x, y, z, sizeof sheet);
+    if (number != SPG_DONE)
+        return refuse(argv[1], number, place);
+    write_sheet(argv[6], place);
+    return 0;
+}
