@@ -1,8 +1,9 @@
 // A whole feed in one call: document 02's P1. Here, in order: size_check (26, 27), feed_boxed (26, 27, 10, 28, 11 to
-// 16), store_result, judge_one, judge_each, judge_feed. Nothing of the polygon is copied for a query, and its boxes are
+// 16), store_result, mode_for, judge_one, judge_each, judge_feed. Nothing of the polygon is copied for a query, and its boxes are
 // built once. A second point that is all zero is none (document 02, P4).
 ghost use mathlib.Core.Path.{_≡_};
 ghost use Prim.Native.Nat.{_+_, _*_, _≤_, _<_};
+ghost use lib.Dec.{ltb};
 ghost use lib.ListN.{length};
 ghost use lib.Seq.{sets};
 ghost use Rattle.sphere.specs.Point.{limitOf};
@@ -10,6 +11,7 @@ ghost use Rattle.answer.specs.declared.Check.the-variants.{Passed};
 ghost use Rattle.answer.specs.Answer.{placeOf};
 ghost use Rattle.polygon.specs.Pair.{optionalCheck};
 ghost use Rattle.search.specs.Boxes.{Boxed};
+ghost use Rattle.search.specs.Walk.{asksBoxes};
 ghost use Rattle.judging.specs.Accept.{BoxRoom, boxedAfter};
 ghost use Rattle.feed.specs.Feed.{queryCount, roomNeeded, resultBytes, resultOf, feedBytes, sizeCheck};
 ghost use Rattle.feed.specs.Feed.{feedCheck, feedOf, resultsAfter};
@@ -22,6 +24,7 @@ use judging::accept::no_second;
 use judging::judge::judge_boxed;
 use polygon::grids::grid_check;
 use polygon::grids::is_mixed;
+use search::walk::Mode;
 use sphere::point::Grid;
 use sphere::point::GridPoint;
 use sphere::point::Point;
@@ -77,8 +80,15 @@ fn store_result(results: &mut [u8], at: usize, answer: Answer)
     store::put_word(results, at + 8, answer::count(answer))
 }
 
-// The numbers of 64 vertices: with so few edges a look at the boxes costs a feed more than it saves.
-const SHORT: usize = 192;
+// By all edges up to 64 vertices, which is 192 numbers: with so few a look at the boxes costs a feed more than it saves.
+fn mode_for(size: usize) -> Mode
+    ensures { λ r. ⌜ asksBoxes r ≡ ltb 192 size ⌝ }
+{
+    if size > 192 {
+        return Mode::Boxed;
+    }
+    Mode::Plain
+}
 
 // Query i and its result. A query that is refused spoils no other.
 fn judge_one(
@@ -100,8 +110,9 @@ fn judge_one(
 {
     let at = i * 12;
     let query = read::point_at(queries, at);
-    let by_boxes = vertices.len() > SHORT;
-    let answer = judge_boxed(grid, vertices, boxes, known, second, query, by_boxes);
+    let mode = mode_for(vertices.len());
+    let judged = judge_boxed(grid, vertices, boxes, known, second, query, mode);
+    let answer = judged.answer;
     store_result(results, at, answer)
 }
 

@@ -1,21 +1,23 @@
 // Judging a query on one grid, from the reference point or, where the query is antipodal to that, from a second one, if
-// there is one (document 02, P4). Here, in order: by_parity, verdict_on; judge_from; judge_boxed, looked_boxed.
+// there is one (document 02, P4). Here, in order: by_parity, verdict_on; judge_from; Judgement, unjudged, judge_boxed.
 // Document 01, 'What comes back'. The polygon is accepted, with its boxes; what users call is in `calls`.
 ghost use mathlib.Core.Path.{_≡_};
 ghost use Rattle.sphere.specs.Point.{fine, limitOf, Within};
 ghost use Rattle.answer.specs.declared.Check.the-variants.{Passed};
+ghost use Rattle.answer.specs.declared.Answer.the-variants.{Refused};
 ghost use Rattle.answer.specs.declared.Found.the-variants.{Nothing};
 ghost use Rattle.polygon.specs.Pair.{judgeFrom, optionalCheck};
 ghost use Rattle.polygon.specs.Verdict.{verdictBy, answerOf};
 ghost use Rattle.search.specs.Boxes.{Boxed};
+ghost use Rattle.search.specs.Walk.{lookedIn};
 ghost use Rattle.judging.specs.Judge.{verdictOn, lookedOf};
 use answer::Answer;
 use answer::Check;
 use polygon::checks::far_check;
 use polygon::checks::query_check;
+use search::walk::Mode;
 use search::walk::Tally;
-use search::walk::looked_edges;
-use search::walk::tally_edges;
+use search::walk::search_edges;
 use sphere::direction::antipodal;
 use sphere::point::Grid;
 use sphere::point::Point;
@@ -55,8 +57,22 @@ fn judge_from(known: Point, second: Point, query: Point) -> Point
     known
 }
 
-// One query to an accepted polygon with its boxes: a caller with many queries builds them once, and may tell the search
-// not to ask them.
+// An answer and, where the mode of the search counts them, how many edges were looked at for it (document 02, P2).
+pub struct Judgement {
+    pub answer: Answer,
+    pub looked: u32,
+}
+
+pub fn unjudged(number: u32, place: usize) -> Judgement
+    ensures { λ r. ⌜ (r .answer ≡ Refused number place) × (r .looked ≡ 0) ⌝ }
+{
+    Judgement {
+        answer: Answer::Refused(number, place),
+        looked: 0,
+    }
+}
+
+// One query to an accepted polygon with its boxes: a caller with many queries builds them once.
 pub fn judge_boxed(
     grid: Grid,
     vertices: &[i32],
@@ -64,45 +80,27 @@ pub fn judge_boxed(
     known: Point,
     second: Point,
     query: Point,
-    by_boxes: bool,
-) -> Answer
+    mode: Mode,
+) -> Judgement
     requires { ⌜ (optionalCheck (limitOf grid) (now vertices) known second ≡ Passed)
         × Boxed (now vertices) (now boxes) ⌝ }
-    ensures { λ r. ⌜ r ≡ answerOf (limitOf grid) (now (vertices .entry)) (judgeFrom known second query) query ⌝ }
+    ensures { λ r. ⌜ (r .answer ≡ answerOf (limitOf grid) (now (vertices .entry)) (judgeFrom known second query) query)
+        × (r .looked ≡ lookedIn mode (lookedOf (limitOf grid) (now (vertices .entry)) (judgeFrom known second query)
+        query)) ⌝ }
 {
     match query_check(grid, query) {
         Check::Passed => {}
-        Check::Failed(number, place) => return Answer::Refused(number, place),
+        Check::Failed(number, place) => return unjudged(number, place),
     }
     let from = judge_from(known, second, query);
     match far_check(from, query) {
         Check::Passed => {}
-        Check::Failed(number, place) => return Answer::Refused(number, place),
+        Check::Failed(number, place) => return unjudged(number, place),
     }
-    verdict_on(tally_edges(grid, vertices, boxes, from, query, by_boxes))
-}
-
-// How many edges it looks at (document 02, P2).
-pub fn looked_boxed(
-    grid: Grid,
-    vertices: &[i32],
-    boxes: &[i32],
-    known: Point,
-    second: Point,
-    query: Point,
-) -> u32
-    requires { ⌜ (optionalCheck (limitOf grid) (now vertices) known second ≡ Passed)
-        × Boxed (now vertices) (now boxes) ⌝ }
-    ensures { λ r. ⌜ r ≡ lookedOf (limitOf grid) (now (vertices .entry)) (judgeFrom known second query) query ⌝ }
-{
-    match query_check(grid, query) {
-        Check::Passed => {}
-        Check::Failed(_, _) => return 0,
+    let searched = search_edges(grid, vertices, boxes, from, query, mode);
+    let tally = searched.tally;
+    Judgement {
+        answer: verdict_on(tally),
+        looked: searched.looked,
     }
-    let from = judge_from(known, second, query);
-    match far_check(from, query) {
-        Check::Passed => {}
-        Check::Failed(_, _) => return 0,
-    }
-    looked_edges(grid, vertices, boxes, from, query)
 }

@@ -15,6 +15,7 @@ use answer::Answer;
 use answer::Check;
 use polygon::checks::accepts;
 use polygon::vertices::vertex_at;
+use search::walk::Mode;
 use sphere::direction::same_direction;
 use sphere::point::Grid;
 use sphere::point::Point;
@@ -36,8 +37,9 @@ pub fn is_second(
             return false;
         }
         let none = no_second();
-        return answer::number(judge_boxed(grid, vertices, boxes, known, none, candidate, true))
-            == 1;
+        let judged = judge_boxed(grid, vertices, boxes, known, none, candidate, Mode::Boxed);
+        let verdict = judged.answer;
+        return answer::number(verdict) == 1;
     }
     false
 }

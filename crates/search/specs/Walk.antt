@@ -1,7 +1,7 @@
 -- Document 02, P2: what a walk over some edges says, and the number of edges looked at. Defined, in order: testBy (one
--- edge); tallyBy, tallyFrom; isLooked, reach, lookedFrom; reachOf, Among, isLookedBy (as they are worked out). A walk
--- goes over k edges from i on.
-use mathlib.Core.Bool.{Bool, not, cond}
+-- edge); tallyBy, tallyFrom; isLooked, reach, lookedFrom; asksBoxes, lookedIn (by the mode), reachOf, Among, isLookedBy
+-- (as they are worked out). A walk goes over k edges from i on.
+use mathlib.Core.Bool.{Bool, false, true, not, cond}
 use mathlib.Core.List.{List}
 use Prim.{Unit}
 use Prim.Native.Nat.{ℕ, suc, _-_, _/_, _<_}
@@ -15,6 +15,8 @@ use Rattle.search.specs.declared.walk.EdgeTest.{EdgeTest}
 use Rattle.search.specs.declared.walk.EdgeTest.the-variants.{OnBorder, Way}
 use Rattle.search.specs.declared.walk.Tally.{Tally}
 use Rattle.search.specs.declared.walk.Tally.the-variants.{Held, Crossed}
+use Rattle.search.specs.declared.walk.Mode.{Mode}
+use Rattle.search.specs.declared.walk.Mode.the-variants.{Plain, Boxed, Counted}
 use Rattle.search.specs.Boxes.{boxAt, isApart, isSkipped}
 
 -- ---- the verdict's parts
@@ -47,6 +49,17 @@ unfoldable pub lookedFrom : List ℤ → Point → Point → ℕ → ℕ → ℕ
 lookedFrom vs X P i k = countFrom (isLooked vs X P) i (reach (firstFrom (isOnBorder vs P) i k) i k)
 
 -- ---- for the code alone: how the number of edges looked at is worked out
+
+-- Whether the mode asks the boxes, and the number that it gives: 0 where it does not count.
+abbrev pub asksBoxes : Mode → Bool
+asksBoxes Plain = false
+asksBoxes Boxed = true
+asksBoxes Counted = true
+
+abbrev pub lookedIn : Mode → ℕ → ℕ
+lookedIn Plain looked = 0
+lookedIn Boxed looked = 0
+lookedIn Counted looked = looked
 
 -- By what the search over n edges said; and that the edge it names is one of them.
 abbrev pub reachOf : Tally → ℕ → ℕ

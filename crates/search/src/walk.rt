@@ -1,6 +1,6 @@
 // The walk over a polygon's edges: document 01's 'When the arc crosses a side', and document 02's P2. Here, in order:
 // EdgeTest, test_edge (one edge); counted, Tally, tally_by, walk_edges (some edges); walk_spans, tally_edges,
-// looked_edges (all).
+// Searched, uncounted, count_edges, Mode, search_edges (all).
 ghost use mathlib.Core.Path.{_≡_};
 ghost use mathlib.Core.Bool.{cond};
 ghost use Prim.Native.Nat.{_-_, _≤_, _<_};
@@ -14,6 +14,7 @@ ghost use Rattle.search.specs.Arc.{Searchable};
 ghost use Rattle.search.specs.Boxes.{Boxed};
 ghost use Rattle.search.specs.Scan.{Sided, EndSides};
 ghost use Rattle.search.specs.Walk.{testBy, tallyBy, tallyFrom, lookedFrom};
+ghost use Rattle.search.specs.Walk.{lookedIn};
 use crate::arc::Arc;
 use crate::arc::arc_between;
 use crate::border::is_on_border;
@@ -147,7 +148,7 @@ fn walk_spans(vertices: &[i32], boxes: &[i32], arc: Arc) -> Tally
 }
 
 // What all edges say of a query: by the boxes beside the polygon, or by all of it.
-pub fn tally_edges(
+fn tally_edges(
     grid: Grid,
     vertices: &[i32],
     boxes: &[i32],
@@ -162,13 +163,60 @@ pub fn tally_edges(
     walk_spans(vertices, boxes, arc_between(grid, known, query, by_boxes))
 }
 
-// How many edges are looked at for it (document 02, P2).
-pub fn looked_edges(grid: Grid, vertices: &[i32], boxes: &[i32], known: Point, query: Point) -> u32
+// The same, and how many edges are looked at for it (document 02, P2).
+pub struct Searched {
+    pub tally: Tally,
+    pub looked: u32,
+}
+
+fn uncounted(tally: Tally) -> Searched
+    ensures { λ r. ⌜ (r .tally ≡ tally) × (r .looked ≡ 0) ⌝ }
+{
+    Searched {
+        tally: tally,
+        looked: 0,
+    }
+}
+
+fn count_edges(grid: Grid, vertices: &[i32], boxes: &[i32], known: Point, query: Point) -> Searched
     requires { ⌜ (acceptCheck (limitOf grid) (now vertices) known ≡ Passed) × Within (limitOf grid) query
         × Boxed (now vertices) (now boxes) ⌝ }
-    ensures { λ r. ⌜ r ≡ lookedFrom (now (vertices .entry)) known query 0 (vertexCount (now (vertices .entry))) ⌝ }
+    ensures { λ r. ⌜ (r .tally ≡ tallyFrom (now (vertices .entry)) known query 0 (vertexCount (now (vertices .entry))))
+        × (r .looked ≡ lookedFrom (now (vertices .entry)) known query 0 (vertexCount (now (vertices .entry)))) ⌝ }
 {
     let arc = arc_between(grid, known, query, true);
     let tally = walk_spans(vertices, boxes, arc);
-    looked_before(boxes, arc.plane, reach_of(tally, vertices.len() / 3))
+    let looked = looked_before(boxes, arc.plane, reach_of(tally, vertices.len() / 3));
+    Searched {
+        tally: tally,
+        looked: looked,
+    }
+}
+
+// How all edges are searched: every one; those that the boxes leave; or these, and their number is worked out.
+pub enum Mode {
+    Plain,
+    Boxed,
+    Counted,
+}
+
+pub fn search_edges(
+    grid: Grid,
+    vertices: &[i32],
+    boxes: &[i32],
+    known: Point,
+    query: Point,
+    mode: Mode,
+) -> Searched
+    requires { ⌜ (acceptCheck (limitOf grid) (now vertices) known ≡ Passed) × Within (limitOf grid) query
+        × Boxed (now vertices) (now boxes) ⌝ }
+    ensures { λ r. ⌜ (r .tally ≡ tallyFrom (now (vertices .entry)) known query 0 (vertexCount (now (vertices .entry))))
+        × (r .looked ≡ lookedIn mode (lookedFrom (now (vertices .entry)) known query 0
+        (vertexCount (now (vertices .entry))))) ⌝ }
+{
+    match mode {
+        Mode::Plain => uncounted(tally_edges(grid, vertices, boxes, known, query, false)),
+        Mode::Boxed => uncounted(tally_edges(grid, vertices, boxes, known, query, true)),
+        Mode::Counted => count_edges(grid, vertices, boxes, known, query),
+    }
 }

@@ -13,14 +13,14 @@ use Rattle.feed.proofs.judge_one.Tie as tie
 
 -- The single call's answer.
 answered : (c : tie.After-judge-boxed) →
-    let s = c .before .before .before .before .args in
+    let s = c .before .before .before .before .before .args in
     let P = queryAt (s .queries .now) (s .i) in
-    c .judge-boxed .result ≡ answerOf (limitOf (s .grid)) (s .vertices .now) (judgeFrom (s .known) (s .second) P) P
+    c .judge-boxed .result .answer ≡ answerOf (limitOf (s .grid)) (s .vertices .now) (judgeFrom (s .known) (s .second) P) P
 answered c =
-    let s = c .before .before .before .before .args in
-    c .judge-boxed .ensures
+    let s = c .before .before .before .before .before .args in
+    c .judge-boxed .ensures .0
     ∙ ap (λ P. answerOf (limitOf (s .grid)) (s .vertices .now) (judgeFrom (s .known) (s .second) P) P)
-    (c .before .point-at .ensures)
+    (c .before .before .point-at .ensures)
 
 mul-at : tie.Need-mul-at
 mul-at c = search needs
@@ -28,12 +28,15 @@ mul-at c = search needs
 point-at-requires : tie.Need-point-at-requires
 point-at-requires c κs = search needs
 
+mode-for-requires : tie.Need-mode-for-requires
+mode-for-requires c κs = search needs
+
 judge-boxed-requires : tie.Need-judge-boxed-requires
 judge-boxed-requires c κs = search needs
 
 store-result-requires : tie.Need-store-result-requires
 store-result-requires c κs =
-    let s = c .before .before .before .before .before in
+    let s = c .before .before .before .before .before .before in
     let i = s .args in
     let accepted = judge-accepted (limitOf (i .grid)) (i .vertices .now) (i .known) (i .second) (s .pre .0 .0) _ in
     (omega arith, rw (answered (c .before)) (answer-small (limitOf (i .grid)) (i .vertices .now) _ accepted _ .place))
@@ -50,6 +53,7 @@ judge-one-spec =
     (tie.spec
     mul-at
     point-at-requires
+    mode-for-requires
     judge-boxed-requires
     store-result-requires
     same-length

@@ -68,7 +68,7 @@ returns-2 c =
     let first : judgeFrom (a .known) (n .no-second .result) (a .candidate) ≡ a .known =
     rw (n .no-second .ensures) (from-none (a .known) (a .candidate)) in
     rw (taken (e .before .before .before) (e .before .before .if1 .taken), same (e .before) (e .if2 .left))
-    (ap (λ (n : ℕ). eqb n 1) (c .number .ensures ∙ ap numberOf (c .before .judge-boxed .ensures
+    (ap (λ (n : ℕ). eqb n 1) (c .number .ensures ∙ ap numberOf (c .before .judge-boxed .ensures .0
     ∙ ap (λ U. answerOf (limitOf (a .grid)) (a .vertices .now) U (a .candidate)) first)))
 
 returns-3 : tie.Need-returns-3

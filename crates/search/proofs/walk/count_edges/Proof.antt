@@ -1,4 +1,4 @@
--- `looked_edges` meets its contract: how far the search comes, and of those the edges whose runs are not skipped.
+-- `count_edges` meets its contract: the walk by the arc between both points; how far the search comes, and of those the edges whose runs are not skipped.
 use mathlib.Core.Path.{sym, _∙_, ap, subst}
 use mathlib.Core.Bool.{true}
 use Prim.Native.Nat.{ℕ, _≤_}
@@ -7,12 +7,12 @@ use Rattle.answer.specs.Search.{countFrom}
 use Rattle.polygon.specs.Vertices.{vertexCount}
 use Rattle.polygon.proofs.Laws.Checks.{accept-passed}
 use Rattle.search.specs.Arc.{arcOf, Searchable}
-use Rattle.search.specs.Walk.{lookedFrom, reachOf, Among, isLookedBy}
+use Rattle.search.specs.Walk.{tallyFrom, lookedFrom, reachOf, Among, isLookedBy}
 use Rattle.search.proofs.Laws.Arc.{arc-searchable}
 use Rattle.search.proofs.Laws.Spans.{cornered}
 use Rattle.search.proofs.Laws.Looked.{reach-tally, reach-within, tally-among, looked-edges}
-use Rattle.search.proofs.walk.looked_edges.Statement.{statement}
-use Rattle.search.proofs.walk.looked_edges.Tie as tie
+use Rattle.search.proofs.walk.count_edges.Statement.{statement}
+use Rattle.search.proofs.walk.count_edges.Tie as tie
 
 arc-between-requires : tie.Need-arc-between-requires
 arc-between-requires c κs = (accept-passed (c .pre .0) .known, c .pre .1)
@@ -59,14 +59,18 @@ returns c =
     let w = c .before .before in
     let arc = w .before .arc-between .result in
     let s = searchable (w .before) in
-    let vs = w .before .before .args .vertices .now in
-    c .looked-before .ensures ∙ ap (countFrom (isLookedBy (w .before .before .args .boxes .now) (arc .plane .normal)) 0)
-    (c .before .reach-of .ensures)
-    ∙ looked-edges (arc .from) (arc .to) (s .boxed) (s .aimed .sound .through) (w .walk-spans .ensures)
-    ∙ ap (λ arc. lookedFrom vs (arc .from) (arc .to) 0 (vertexCount vs)) (w .before .arc-between .ensures)
+    let vs = w .before .before .args .vertices .now in (
+      w .walk-spans .ensures
+          ∙ ap (λ arc. tallyFrom vs (arc .from) (arc .to) 0 (vertexCount vs)) (w .before .arc-between .ensures),
+      c .looked-before .ensures
+          ∙ ap (countFrom (isLookedBy (w .before .before .args .boxes .now) (arc .plane .normal)) 0)
+          (c .before .reach-of .ensures)
+          ∙ looked-edges (arc .from) (arc .to) (s .boxed) (s .aimed .sound .through) (w .walk-spans .ensures)
+          ∙ ap (λ arc. lookedFrom vs (arc .from) (arc .to) 0 (vertexCount vs)) (w .before .arc-between .ensures),
+    )
 
-pub looked-edges-spec : {M : Type 1} → statement M
-looked-edges-spec =
+pub count-edges-spec : {M : Type 1} → statement M
+count-edges-spec =
     tie.close
     (tie.spec
     arc-between-requires

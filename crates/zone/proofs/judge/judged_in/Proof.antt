@@ -1,4 +1,4 @@
--- `judge::judge_in` meets its contract: the polygon that the checks decoded is the sheet's, and its points are
+-- `judge::judged_in` meets its contract: the polygon that the checks decoded is the sheet's, and its points are
 -- accepted.
 use mathlib.Core.Path.{_≡_, sym, ap, _∙_}
 use native.Mathlib.Omega.{arith}
@@ -8,12 +8,15 @@ use Rattle.sphere.specs.Point.{limitOf}
 use Rattle.answer.specs.declared.Check.the-variants.{Passed}
 use Rattle.polygon.specs.Pair.{judgeFrom, optionalCheck}
 use Rattle.polygon.specs.Verdict.{answerOf}
+use Rattle.search.specs.Walk.{lookedIn}
+use Rattle.judging.specs.Judge.{lookedOf}
+use Rattle.judging.proofs.Laws.Judge.{none-looked}
 use Rattle.sheet.specs.Sheet.{sheetCheck}
 use Rattle.sheet.proofs.Laws.Reads.{sheet-plain, sheet-fields, sheet-optional, opened-check, opened-passed}
-use Rattle.zone.specs.Judge.{sheetAnswerOf}
+use Rattle.zone.specs.Judge.{sheetAnswerOf, sheetLookedOf}
 use Rattle.zone.proofs.Laws.Opened.{Polygon, polygon, opened-boxed}
-use Rattle.zone.proofs.judge.judge_in.Statement.{statement}
-use Rattle.zone.proofs.judge.judge_in.Tie as tie
+use Rattle.zone.proofs.judge.judged_in.Statement.{statement}
+use Rattle.zone.proofs.judge.judged_in.Tie as tie
 
 -- The call's arguments, from the place after opening, and what the checks said.
 module _ (o : tie.After-open-into) where
@@ -46,6 +49,9 @@ enum-told c = search needs
 enum-known-check : tie.Need-enum-known-check
 enum-known-check c = search needs
 
+unjudged-requires : tie.Need-unjudged-requires
+unjudged-requires c κs = search needs
+
 same-length : tie.Need-same-length
 same-length c = search needs
 
@@ -53,10 +59,14 @@ same-length-2 : tie.Need-same-length-2
 same-length-2 c = search needs
 
 returns : tie.Need-returns
-unfolding sheetAnswerOf
+unfolding sheetAnswerOf sheetLookedOf
 returns c =
-    let o = c .before .before .before .before .before in
-    (rw (checked o ∙ c .before .check .given .1), o .open-into .ensures .1)
+    let o = c .before .before .before .before .before .before in
+    let e = checked o ∙ c .before .before .check .given .1 in
+    let mode = start o .args .mode in (
+      (rw e (c .unjudged .ensures .0), rw e (c .unjudged .ensures .1 ∙ none-looked mode)),
+      o .open-into .ensures .1,
+    )
 
 mul-size : tie.Need-mul-size
 mul-size c = record { fits = omega (arith, found (c .before) .few) }
@@ -86,24 +96,32 @@ same-length-4 : tie.Need-same-length-4
 same-length-4 c = search needs
 
 returns-2 : tie.Need-returns-2
-unfolding sheetAnswerOf
+unfolding sheetAnswerOf sheetLookedOf
 returns-2 c =
     let t = c .before .before .before .before in
-    let P = start (opened t) .args .query in
+    let a = start (opened t) .args in
+    let P = a .query in
     let f = found t in
-    let e = f .points in (
-      rw (passed t) (c .judge-boxed .ensures
-          ∙ (λ j. answerOf (limitOf (e j .grid)) (f .row j) (judgeFrom (e j .known) (e j .second) P) P)),
+    let e = f .points in
+    let said = c .judge-boxed .ensures in (
+      (
+        rw (passed t) (said .0
+            ∙ (λ j. answerOf (limitOf (e j .grid)) (f .row j) (judgeFrom (e j .known) (e j .second) P) P)),
+        rw (passed t) (said .1
+            ∙ (λ j. lookedIn (a .mode) (lookedOf (limitOf (e j .grid)) (f .row j)
+            (judgeFrom (e j .known) (e j .second) P) P))),
+      ),
       opened t .open-into .ensures .1,
     )
 
-pub judge-in-spec : {M : Type 1} → statement M
-judge-in-spec =
+pub judged-in-spec : {M : Type 1} → statement M
+judged-in-spec =
     tie.close
     (tie.spec
     open-into-requires
     enum-told
     enum-known-check
+    unjudged-requires
     same-length
     same-length-2
     returns

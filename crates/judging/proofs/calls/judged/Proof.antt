@@ -1,17 +1,20 @@
--- `looked` meets its contract: lines 10 and 28, then 10 to 16, and then the query, with no second point.
+-- `judged` meets its contract: lines 10 and 28, then 10 to 16, and then the query, with no second point.
 use mathlib.Core.Path.{_≡_, sym, ap, _∙_}
 use mathlib.Core.List.{[], _∷_}
 use borrow.Author.Needs.{needs}
 use Rattle.sphere.specs.Point.{limitOf}
 use Rattle.answer.specs.declared.Check.the-variants.{Passed}
 use Rattle.polygon.specs.Checks.{acceptCheck, judgeCheck}
+use Rattle.polygon.specs.Verdict.{answerOf}
 use Rattle.polygon.specs.Pair.{judgeFrom}
-use Rattle.polygon.specs.Grids.{isMixed, gridCheck}
+use Rattle.polygon.specs.Grids.{isMixed, gridCheck, gridAnswerOf}
+use Rattle.search.specs.Walk.{lookedIn}
 use Rattle.judging.specs.Judge.{lookedOf, gridLookedOf}
 use Rattle.judging.proofs.Laws.Accept.{room-any, after-boxed}
+use Rattle.judging.proofs.Laws.Judge.{none-looked}
 use Rattle.judging.proofs.Laws.From.{from-none, optional-none}
-use Rattle.judging.proofs.calls.looked.Statement.{statement}
-use Rattle.judging.proofs.calls.looked.Tie as tie
+use Rattle.judging.proofs.calls.judged.Statement.{statement}
+use Rattle.judging.proofs.calls.judged.Tie as tie
 
 is-mixed-requires : tie.Need-is-mixed-requires
 is-mixed-requires c κs = search needs
@@ -22,8 +25,8 @@ grid-check-requires c κs = search needs
 enum-told : tie.Need-enum-told
 enum-told c = search needs
 
-enum-told-2 : tie.Need-enum-told-2
-enum-told-2 c = search needs
+enum-known-number : tie.Need-enum-known-number
+enum-known-number c = search needs
 
 -- What lines 10 and 28 say.
 checked : (c : tie.After-grid-check) →
@@ -32,9 +35,15 @@ checked : (c : tie.After-grid-check) →
 checked c =
     c .grid-check .ensures ∙ ap (gridCheck (c .before .before .args .vertices .now)) (c .before .is-mixed .ensures)
 
+unjudged-requires : tie.Need-unjudged-requires
+unjudged-requires c κs = search needs
+
 returns : tie.Need-returns
-unfolding gridLookedOf
-returns c = rw (sym (checked (c .before .before)) ∙ c .enum-told2 .given .1)
+unfolding gridAnswerOf gridLookedOf
+returns c =
+    let g = c .before .before .before .before in
+    let e = sym (checked g) ∙ c .before .before .number .given .1 in
+    (rw e (c .unjudged .ensures .0), rw e (c .unjudged .ensures .1 ∙ none-looked (g .before .before .args .mode)))
 
 -- They passed.
 unmixed : (c : tie.After-boxes) →
@@ -49,32 +58,38 @@ accept-boxed-requires : tie.Need-accept-boxed-requires
 accept-boxed-requires c κs =
     room-any (c .before .before .before .before .before .args .vertices .now) _ (search needs)
 
-enum-told-3 : tie.Need-enum-told-3
-enum-told-3 c = search needs
+enum-told-2 : tie.Need-enum-told-2
+enum-told-2 c = search needs
 
-enum-told-4 : tie.Need-enum-told-4
-enum-told-4 c = search needs
+enum-known-number-2 : tie.Need-enum-known-number-2
+enum-known-number-2 c = search needs
+
+unjudged-requires-2 : tie.Need-unjudged-requires-2
+unjudged-requires-2 c κs = search needs
 
 returns-2 : tie.Need-returns-2
-unfolding gridLookedOf lookedOf judgeCheck
+unfolding gridAnswerOf gridLookedOf answerOf lookedOf judgeCheck
 returns-2 c =
-    let a = c .before .before .before in
-    rw (unmixed (a .before), sym (a .accept-boxed .ensures .0) ∙ c .enum-told4 .given .1)
+    let a = c .before .before .before .before .before in
+    let u = unmixed (a .before) in
+    let e = sym (a .accept-boxed .ensures .0) ∙ c .before .before .number2 .given .1 in
+    let mode = a .before .before .before .before .before .before .args .mode in
+    (rw (u, e) (c .unjudged2 .ensures .0), rw (u, e) (c .unjudged2 .ensures .1 ∙ none-looked mode))
 
 no-second-requires : tie.Need-no-second-requires
 no-second-requires c κs = search needs
 
 -- Lines 10 to 16 passed.
-accepted : (c : tie.After-enum-told3) →
+accepted : (c : tie.After-enum-told2) →
     let s = c .before .before .before .before .before .before .before .before .before .args in
     acceptCheck (limitOf (s .grid)) (s .vertices .now) (s .known .point) ≡ Passed
-accepted c = sym (c .before .before .before .accept-boxed .ensures .0) ∙ c .enum-told3 .given .1
+accepted c = sym (c .before .before .before .accept-boxed .ensures .0) ∙ c .enum-told2 .given .1
 
-slice-aggregate-looked-boxed : tie.Need-slice-aggregate-looked-boxed
-slice-aggregate-looked-boxed c = search needs
+slice-aggregate-judge-boxed : tie.Need-slice-aggregate-judge-boxed
+slice-aggregate-judge-boxed c = search needs
 
-looked-boxed-requires : tie.Need-looked-boxed-requires
-looked-boxed-requires c κs =
+judge-boxed-requires : tie.Need-judge-boxed-requires
+judge-boxed-requires c κs =
     let t = c .before .before in
     let ok = accepted t in
     let a = t .before .before .before in
@@ -87,31 +102,38 @@ looked-boxed-requires c κs =
     )
 
 returns-3 : tie.Need-returns-3
-unfolding gridLookedOf
+unfolding gridAnswerOf gridLookedOf
 returns-3 c =
     let n = c .before .before in
     let a = n .before .before .before .before in
     let s = a .before .before .before .before .before .before .args in
-    let first : judgeFrom (s .known .point) (n .no-second .result) (s .query .point) ≡ s .known .point =
-    rw (n .no-second .ensures) (from-none (s .known .point) (s .query .point)) in
-    rw (unmixed (a .before))
-    (c .looked-boxed .ensures ∙ ap (λ U. lookedOf (limitOf (s .grid)) (s .vertices .now) U (s .query .point)) first)
+    let limit = limitOf (s .grid) in
+    let vs = s .vertices .now in
+    let P = s .query .point in
+    let first : judgeFrom (s .known .point) (n .no-second .result) P ≡ s .known .point =
+    rw (n .no-second .ensures) (from-none (s .known .point) P) in
+    let said = c .judge-boxed .ensures in (
+      rw (unmixed (a .before)) (said .0 ∙ ap (λ U. answerOf limit vs U P) first),
+      rw (unmixed (a .before)) (said .1 ∙ ap (λ U. lookedIn (s .mode) (lookedOf limit vs U P)) first),
+    )
 
-pub looked-spec : {M : Type 1} → statement M
-looked-spec =
+pub judged-spec : {M : Type 1} → statement M
+judged-spec =
     tie.close
     (tie.spec
     is-mixed-requires
     grid-check-requires
     enum-told
-    enum-told-2
+    enum-known-number
+    unjudged-requires
     returns
     slice-aggregate-accept-boxed
     accept-boxed-requires
-    enum-told-3
-    enum-told-4
+    enum-told-2
+    enum-known-number-2
+    unjudged-requires-2
     returns-2
     no-second-requires
-    slice-aggregate-looked-boxed
-    looked-boxed-requires
+    slice-aggregate-judge-boxed
+    judge-boxed-requires
     returns-3)

@@ -1,16 +1,17 @@
--- `looked_pair` meets its contract: lines 10 and 28, then 10 to 16 and 19, and then the query.
+-- `judged_pair` meets its contract: lines 10 and 28, then 10 to 16 and 19, and then the query.
 use mathlib.Core.Path.{_≡_, sym, ap, _∙_}
 use mathlib.Core.List.{[], _∷_}
 use borrow.Author.Needs.{needs}
 use Rattle.sphere.specs.Point.{limitOf}
 use Rattle.answer.specs.declared.Check.the-variants.{Passed}
-use Rattle.polygon.specs.Pair.{pairCheck}
-use Rattle.polygon.specs.Grids.{isMixed, gridCheck}
-use Rattle.polygon.proofs.Laws.Pair.{optional-first, pair→optional}
+use Rattle.polygon.specs.Pair.{pairCheck, pairAnswerOf}
+use Rattle.polygon.specs.Grids.{isMixed, gridCheck, gridPairOf}
 use Rattle.judging.specs.Judge.{gridLookedPairOf}
+use Rattle.polygon.proofs.Laws.Pair.{optional-first, pair→optional}
+use Rattle.judging.proofs.Laws.Judge.{none-looked}
 use Rattle.judging.proofs.Laws.Accept.{room-any, after-boxed}
-use Rattle.judging.proofs.calls.looked_pair.Statement.{statement}
-use Rattle.judging.proofs.calls.looked_pair.Tie as tie
+use Rattle.judging.proofs.calls.judged_pair.Statement.{statement}
+use Rattle.judging.proofs.calls.judged_pair.Tie as tie
 
 is-mixed-of-three-requires : tie.Need-is-mixed-of-three-requires
 is-mixed-of-three-requires c κs = search needs
@@ -21,8 +22,8 @@ grid-check-requires c κs = search needs
 enum-told : tie.Need-enum-told
 enum-told c = search needs
 
-enum-told-2 : tie.Need-enum-told-2
-enum-told-2 c = search needs
+enum-known-number : tie.Need-enum-known-number
+enum-known-number c = search needs
 
 -- What lines 10 and 28 say.
 checked : (c : tie.After-grid-check) →
@@ -33,9 +34,15 @@ checked c =
     c .grid-check .ensures
     ∙ ap (gridCheck (c .before .before .args .vertices .now)) (c .before .is-mixed-of-three .ensures)
 
+unjudged-requires : tie.Need-unjudged-requires
+unjudged-requires c κs = search needs
+
 returns : tie.Need-returns
-unfolding gridLookedPairOf
-returns c = rw (sym (checked (c .before .before)) ∙ c .enum-told2 .given .1)
+unfolding gridPairOf gridLookedPairOf
+returns c =
+    let g = c .before .before .before .before in
+    let e = sym (checked g) ∙ c .before .before .number .given .1 in
+    (rw e (c .unjudged .ensures .0), rw e (c .unjudged .ensures .1 ∙ none-looked (g .before .before .args .mode)))
 
 -- They passed.
 unmixed : (c : tie.After-boxes) →
@@ -50,29 +57,35 @@ pair-boxed-requires : tie.Need-pair-boxed-requires
 pair-boxed-requires c κs =
     room-any (c .before .before .before .before .before .args .vertices .now) _ (search needs)
 
-enum-told-3 : tie.Need-enum-told-3
-enum-told-3 c = search needs
+enum-told-2 : tie.Need-enum-told-2
+enum-told-2 c = search needs
 
-enum-told-4 : tie.Need-enum-told-4
-enum-told-4 c = search needs
+enum-known-number-2 : tie.Need-enum-known-number-2
+enum-known-number-2 c = search needs
+
+unjudged-requires-2 : tie.Need-unjudged-requires-2
+unjudged-requires-2 c κs = search needs
 
 returns-2 : tie.Need-returns-2
-unfolding gridLookedPairOf
+unfolding gridPairOf gridLookedPairOf pairAnswerOf
 returns-2 c =
-    let a = c .before .before .before in
-    rw (unmixed (a .before), sym (a .pair-boxed .ensures .0) ∙ c .enum-told4 .given .1)
+    let a = c .before .before .before .before .before in
+    let u = unmixed (a .before) in
+    let e = sym (a .pair-boxed .ensures .0) ∙ c .before .before .number2 .given .1 in
+    let mode = a .before .before .before .before .before .before .args .mode in
+    (rw (u, e) (c .unjudged2 .ensures .0), rw (u, e) (c .unjudged2 .ensures .1 ∙ none-looked mode))
 
 -- Lines 10 to 16 and 19 passed.
-accepted : (c : tie.After-enum-told3) →
+accepted : (c : tie.After-enum-told2) →
     let s = c .before .before .before .before .before .before .before .before .before .args in
     pairCheck (limitOf (s .grid)) (s .vertices .now) (s .known .point) (s .second .point) ≡ Passed
-accepted c = sym (c .before .before .before .pair-boxed .ensures .0) ∙ c .enum-told3 .given .1
+accepted c = sym (c .before .before .before .pair-boxed .ensures .0) ∙ c .enum-told2 .given .1
 
-slice-aggregate-looked-boxed : tie.Need-slice-aggregate-looked-boxed
-slice-aggregate-looked-boxed c = search needs
+slice-aggregate-judge-boxed : tie.Need-slice-aggregate-judge-boxed
+slice-aggregate-judge-boxed c = search needs
 
-looked-boxed-requires : tie.Need-looked-boxed-requires
-looked-boxed-requires c κs =
+judge-boxed-requires : tie.Need-judge-boxed-requires
+judge-boxed-requires c κs =
     let t = c .before in
     let ok = accepted t in
     let a = t .before .before .before in
@@ -87,24 +100,29 @@ looked-boxed-requires c κs =
     )
 
 returns-3 : tie.Need-returns-3
-unfolding gridLookedPairOf
+unfolding gridPairOf gridLookedPairOf pairAnswerOf
 returns-3 c =
-    let t = c .before .before in rw (unmixed (t .before .before .before .before), accepted t) (c .looked-boxed .ensures)
+    let t = c .before .before in
+    let u = unmixed (t .before .before .before .before) in
+    let said = c .judge-boxed .ensures in
+    (rw (u, accepted t) (said .0), rw (u, accepted t) (said .1))
 
-pub looked-pair-spec : {M : Type 1} → statement M
-looked-pair-spec =
+pub judged-pair-spec : {M : Type 1} → statement M
+judged-pair-spec =
     tie.close
     (tie.spec
     is-mixed-of-three-requires
     grid-check-requires
     enum-told
-    enum-told-2
+    enum-known-number
+    unjudged-requires
     returns
     slice-aggregate-pair-boxed
     pair-boxed-requires
-    enum-told-3
-    enum-told-4
+    enum-told-2
+    enum-known-number-2
+    unjudged-requires-2
     returns-2
-    slice-aggregate-looked-boxed
-    looked-boxed-requires
+    slice-aggregate-judge-boxed
+    judge-boxed-requires
     returns-3)
