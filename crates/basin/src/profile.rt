@@ -49,7 +49,7 @@ pub fn basin_count(basin: Basin) -> u32
     }
 }
 
-fn grid_numbered(number: u32) -> Grid
+pub fn grid_numbered(number: u32) -> Grid
     ensures { λ r. ⌜ r ≡ gridNumbered number ⌝ }
 {
     if number == 0 {

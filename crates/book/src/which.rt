@@ -19,7 +19,7 @@ use sphere::point::Point;
 use zone::judge::judge;
 
 // The number that names a grid.
-fn grid_number(grid: Grid) -> u32
+pub fn grid_number(grid: Grid) -> u32
     ensures { λ r. ⌜ r ≡ gridNumberOf grid ⌝ }
 {
     match grid {

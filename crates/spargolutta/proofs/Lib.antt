@@ -1,1 +1,4 @@
 pub mod Handed
+pub mod Listed
+pub mod Read
+pub mod Claims

@@ -1,4 +1,4 @@
-// Two sheets compared: document 02's P11. Here, in order: wide, packed; the exported functions, each of which hands out
+// Two sheets compared: document 02's P11. Here, in order: byte, packed; the exported functions, each of which hands out
 // one number of the comparison.
 ghost use mathlib.Core.Path.{_≡_};
 ghost use Prim.Native.Nat.{_<_};
@@ -6,7 +6,7 @@ ghost use Rattle.compare.specs.Comparison.{comparisonOf};
 ghost use Rattle.spargolutta.specs.Packed.{packedOf};
 use compare::compare;
 
-fn wide(x: u8) -> u64
+fn byte(x: u8) -> u64
     ensures { λ r. ⌜ (r ≡ x) × (r < 256) ⌝ }
 {
     x as u64
@@ -16,9 +16,9 @@ fn wide(x: u8) -> u64
 fn packed(fields: [u8; 7]) -> u64
     ensures { λ r. ⌜ r ≡ packedOf fields ⌝ }
 {
-    let high = wide(fields[4]) + (wide(fields[5]) + wide(fields[6]) * 256) * 256;
-    let low = wide(fields[2]) + (wide(fields[3]) + high * 256) * 256;
-    wide(fields[0]) + (wide(fields[1]) + low * 256) * 256
+    let high = byte(fields[4]) + (byte(fields[5]) + byte(fields[6]) * 256) * 256;
+    let low = byte(fields[2]) + (byte(fields[3]) + high * 256) * 256;
+    byte(fields[0]) + (byte(fields[1]) + low * 256) * 256
 }
 
 #[no_mangle]

@@ -1,19 +1,17 @@
 -- `basin_of` meets its contract: there is room for an outline of 4,096 vertices, and a longer one is refused.
 use mathlib.Core.Path.{_≡_, sym, ap, _∙_}
-use mathlib.Core.Bool.{false, and-false}
 use mathlib.Core.List.{List}
 use Prim.Native.Nat.{ℕ, _*_, _/_, _%_, _<_}
 use native.Mathlib.Omega.{arith}
 use borrow.Author.Needs.{needs}
-use borrow.Author.Tests.{eq-eqb, ne-eqb, lt-leb}
-use lib.Dec.{leb, eqb}
+use borrow.Author.Tests.{eq-eqb, ne-eqb}
 use lib.ListN.{length}
 use Rattle.big_endian.proofs.Laws.Rows.{intsAt-length}
-use Rattle.polygon.specs.Checks.{isVertexList, listCheck}
 use Rattle.polygon.specs.Grids.{gridCheck}
 use Rattle.basin.specs.declared.profile.Basin.the-variants.{Refused}
 use Rattle.basin.specs.Basin.{basinCheck, basinOf}
 use Rattle.spargolutta.specs.Outline.{outlineOf, basinOfBytes}
+use Rattle.spargolutta.proofs.Listed.{list-long}
 use Rattle.spargolutta.proofs.outline.basin_of.Statement.{statement}
 use Rattle.spargolutta.proofs.outline.basin_of.Tie as tie
 
@@ -23,11 +21,9 @@ whole c = c .if1 .left
 
 -- Over 4,096 vertices: line 10.
 long : (g : ℕ) (b : List ℕ) → 49152 < length b → length b % 12 ≡ 0 → basinOf g (outlineOf b) ≡ Refused 10 0
-unfolding basinOf basinCheck gridCheck listCheck
+unfolding basinOf basinCheck gridCheck
 long g b h w =
-    let size = intsAt-length b 0 (length b / 12 * 3) in
-    let most : leb (length (outlineOf b) / 3) 4096 ≡ false = lt-leb (length (outlineOf b) / 3) 4096 (omega (arith, size)) in
-    rw (most, and-false (leb 3 (length (outlineOf b) / 3)), and-false (eqb (length (outlineOf b) % 3) 0))
+    rw (list-long (outlineOf b) (omega (arith, intsAt-length b 0 (length b / 12 * 3))))
 
 returns : tie.Need-returns
 unfolding basinOfBytes
