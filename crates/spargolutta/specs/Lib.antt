@@ -4,3 +4,4 @@ pub mod Packed
 pub mod Writing
 pub mod Reading
 pub mod Claims
+pub mod Meanings

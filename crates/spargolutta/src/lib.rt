@@ -1,9 +1,9 @@
 // The C boundary: functions over a sheet's bytes and a query's three numbers, or a feed's or candidates' bytes, each
 // returning one number. Declared for C in include/spargolutta.h; nothing checks that declaration against this source.
-// Only spg_feed_number, spg_import_number, spg_write_number and spg_vertices_number write, and nothing is kept between
-// calls. `outline` has the functions over vertices alone, `books` those over a book of sheets, `comparison` those over
-// two sheets, `imports` those over a GeoJSON text and a position; `writing` writes a sheet, `reading` hands out its
-// parts and `filling` its vertices.
+// Only spg_feed_number, spg_import_number, spg_write_number, spg_vertices_number and spg_meaning_text write, and nothing
+// is kept between calls. `outline` has the functions over vertices alone, `books` those over a book of sheets,
+// `comparison` those over two sheets, `imports` those over a GeoJSON text and a position; `writing` writes a sheet,
+// `reading` hands out its parts and `filling` its vertices; `meanings` says what the numbers mean.
 ghost use mathlib.Core.Path.{_≡_};
 ghost use lib.ListN.{length};
 ghost use Rattle.answer.specs.Answer.{numberOf, placeOf, countOf, sumOf};
@@ -15,6 +15,7 @@ pub mod books;
 pub mod comparison;
 pub mod filling;
 pub mod imports;
+pub mod meanings;
 mod outline;
 pub mod reading;
 pub mod writing;
