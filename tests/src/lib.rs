@@ -55,6 +55,8 @@ mod rounding;
 #[cfg(test)]
 mod second_point;
 #[cfg(test)]
+mod sheets;
+#[cfg(test)]
 mod turns;
 #[cfg(test)]
 mod which_harbour;
@@ -67,7 +69,7 @@ mod yardstick;
 pub type Point = [i32; 3];
 
 /// What comes back: document 01's number, place and count.
-#[derive(Clone, Copy, Debug, PartialEq, Eq)]
+#[derive(Clone, Copy, Debug, Default, PartialEq, Eq)]
 pub struct Answer {
     pub number: u32,
     pub place: usize,
@@ -99,4 +101,31 @@ pub struct Comparison {
     pub count: u32,
     pub way: u32,
     pub fields: [u8; 7],
+}
+
+/// What a caller hands over to have a sheet written: the vertices in bytes, a grid by its number, a second point of
+/// all zero for none.
+#[derive(Clone, Debug)]
+pub struct Written {
+    pub zone: u32,
+    pub charset: u32,
+    pub name: Vec<u8>,
+    pub known: Point,
+    pub second: Point,
+    pub vertices: Vec<u8>,
+    pub grid: u32,
+}
+
+/// What reading a sheet hands back; `vertices` is their number.
+#[derive(Clone, Copy, Debug, Default, PartialEq, Eq)]
+pub struct Parts {
+    pub answer: Answer,
+    pub zone: u32,
+    pub charset: u32,
+    pub name_place: usize,
+    pub name_length: usize,
+    pub known: Point,
+    pub second: Point,
+    pub grid: u32,
+    pub vertices: usize,
 }

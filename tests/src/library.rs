@@ -1,6 +1,7 @@
 //! The calls of libspargolutta.a, declared as in include/spargolutta.h.
 
 pub mod book;
+pub mod sheets;
 
 use crate::{Answer, Comparison, Point, Single};
 pub use basin::{basin, basin_number};
