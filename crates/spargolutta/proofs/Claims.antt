@@ -1,16 +1,14 @@
 -- The claims of specs/Claims, proved.
-use mathlib.Core.Path.{_≡_, refl, sym, ap, ap₂, _∙_}
-use mathlib.Core.Bool.{Bool, true, false, not, _||_, cond}
-use mathlib.Core.List.{List, [], _∷_, _++_}
-use Prim.Native.Nat.{ℕ, zero, suc, _+_, _*_, _/_}
+use mathlib.Core.Path.{_≡_, refl, sym, ap}
+use mathlib.Core.Bool.{Bool, true, false, not, cond}
+use mathlib.Core.List.{List, [], _∷_}
+use Prim.Native.Nat.{ℕ, zero, suc, _+_, _*_}
 use native.Mathlib.Omega.{arith}
 use borrow.Author.Tests.{ne-eqb}
 use lib.Dec.{ltb, lit<}
-use lib.ListN.{length, take, drop}
+use lib.ListN.{length, drop}
 use lib.Seq.{take-at}
 use Rattle.sphere.specs.declared.point.Point.{Point}
-use Rattle.sphere.specs.declared.point.Grid.{Grid}
-use Rattle.sphere.specs.declared.point.Grid.the-variants.{Coarse, Fine}
 use Rattle.sphere.specs.Point.{isNull}
 use Rattle.answer.specs.declared.Answer.the-variants.{Done}
 use Rattle.answer.specs.declared.Check.{Check}
@@ -18,11 +16,11 @@ use Rattle.answer.specs.declared.Check.the-variants.{Passed, Failed}
 use Rattle.answer.specs.Answer.{numberOf, answerAfter}
 use Rattle.answer.proofs.Laws.Numbers.{Numbered, _both_, here-numbered}
 use Rattle.polygon.specs.Grids.{isMixed, gridOfSecond}
-use Rattle.polygon.specs.GridClaims.{Mixed, on}
+use Rattle.polygon.specs.GridClaims.{on}
 use Rattle.basin.specs.Basin.{isGridNumber, gridNumbered}
 use Rattle.fields.specs.Fields.{verticesStart}
 use Rattle.fields.proofs.Laws.Fields.{passed-spans}
-use Rattle.sheet.specs.Sheet.{vertexCountOf, verticesOf, sheetCheck, readOf}
+use Rattle.sheet.specs.Sheet.{vertexCountOf, verticesOf, sheetCheck}
 use Rattle.sheet.proofs.Claims.{written-reads-back}
 use Rattle.sheet.proofs.Mixed.{write-mixed-exactly}
 use Rattle.sheet.proofs.Laws.Numbers.{Above, above-sheet}

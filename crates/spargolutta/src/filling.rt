@@ -1,11 +1,10 @@
-// The vertices of a sheet for C, twelve bytes each, as they stand there. Here, in order: vertex_bytes, fill_check,
-// check_number, check_place; the exported functions, of which spg_vertices_number alone writes.
+// The vertices of a sheet for C, twelve bytes each, as they stand there. Here, in order: vertex_bytes, fill_check; the
+// exported functions, of which spg_vertices_number alone writes.
 ghost use mathlib.Core.Path.{_≡_};
 ghost use Prim.Native.Nat.{_+_, _*_, _≤_};
 ghost use lib.ListN.{length};
 ghost use Rattle.answer.specs.declared.Check.the-variants.{Passed};
 ghost use Rattle.answer.specs.Answer.{numberOf, placeOf};
-ghost use Rattle.answer.specs.Chain.{checkNumberOf, checkPlaceOf};
 ghost use Rattle.fields.specs.Fields.{fiveFields, verticesStart};
 ghost use Rattle.sheet.specs.Sheet.{vertexCountOf};
 ghost use Rattle.spargolutta.specs.Reading.{fillCheck, fillOf, filledTo};

@@ -1,8 +1,7 @@
 -- `reading::known` meets its contract.
-use mathlib.Core.Path.{ap, sym, _∙_}
+use mathlib.Core.Path.{ap, _∙_}
 use borrow.Author.Needs.{needs}
 use Rattle.sheet.specs.declared.read.Sheet.{Sheet}
-use Rattle.sphere.specs.Point.{Within}
 use Rattle.spargolutta.specs.Reading.{pointNumbers}
 use Rattle.spargolutta.proofs.Read.{read-points}
 use Rattle.spargolutta.proofs.reading.known.Statement.{statement}

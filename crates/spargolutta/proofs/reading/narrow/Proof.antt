@@ -1,5 +1,4 @@
 -- `reading::narrow` meets its contract.
-use mathlib.Core.Path.{_∙_}
 use mir.Syntax.{w32, w64}
 use mir.ValLaws.{toZ-ofZ}
 use Rattle.big_endian.proofs.Laws.Signed.{narrows}

@@ -1,7 +1,7 @@
 -- `writing::write_list` meets its contract.
-use mathlib.Core.Path.{_≡_, sym, ap, _∙_}
+use mathlib.Core.Path.{sym, ap, _∙_}
 use borrow.Author.Needs.{needs}
-use lib.ListN.{length, take}
+use lib.ListN.{length}
 use lib.Seq.{length-take-le}
 use Rattle.big_endian.specs.Bytes.{intsAt}
 use Rattle.polygon.specs.GridClaims.{on}
