@@ -5,10 +5,11 @@
 # make install    header, archive and pkg-config file under PREFIX (no spaces in it)
 # make host-test  the host tests alone
 # make bench      the library and the program against Rust and C, as ratios of times and instructions
+# make numbers    share/spargolutta/numbers.tsv, the table of numbers for other languages
 # make fmt        the layout that the gate asks for
 SHELL := /bin/bash
 .SHELLFLAGS := -o pipefail -ec
-.PHONY: run test lib bin install host-test bench fmt
+.PHONY: run test lib bin install host-test bench numbers fmt
 
 PREFIX ?= /usr/local
 DESTDIR ?=
@@ -54,6 +55,11 @@ host-test: lib bin
 
 bench: lib bin
 	@$(CARGO) run --release --offline --quiet --manifest-path bench/Cargo.toml
+
+# The host tests compare it with the header and the library.
+numbers: lib
+	@cc -std=c99 -Iinclude -o target/numbers share/numbers.c target/staticlib/libspargolutta.a
+	@target/numbers < include/spargolutta.h > share/spargolutta/numbers.tsv
 
 fmt:
 	rt fmt

@@ -7,8 +7,8 @@
  * UTF-8. LONGITUDE and LATITUDE are those of the known point, a place inside, in degrees with up to seven decimals.
  * SHEET is the file to write.
  *
- * Ends with 0 if the sheet was written, 1 if something was refused (and why goes to standard error; no file is written),
- * 2 if a file could not be read or written or the words are not as above.
+ * Ends with 0 if the sheet was written, 1 if something was refused (and why goes to standard error; no file is
+ * written), 2 if a file could not be read or written or the words are not as above.
  *
  *     cc -o import_zone import_zone.c $(pkg-config --cflags --libs spargolutta)
  */
@@ -22,7 +22,7 @@
 #define TEXT_MOST (1 << 22) /* the longest file that is read */
 
 static uint8_t text[TEXT_MOST + 1];
-static uint8_t sheet[49304]; /* 4,096 vertices and a name of 120 bytes */
+static uint8_t sheet[SPG_SHEET_MOST];
 
 static void exit_with(const char *path)
 {
@@ -91,9 +91,10 @@ static bool read_zone(const char *word, uint32_t *zone)
     return '0' <= *word && *word <= '9' && *end == '\0' && errno == 0 && value <= UINT32_MAX;
 }
 
-static int refuse(const char *what, uint32_t number, size_t place)
+static int refuse(const char *what, struct spg_answer answer)
 {
-    fprintf(stderr, "refused: %s: %s (%u), place %zu\n", what, spg_meaning(number), (unsigned)number, place);
+    const char *meaning = spg_meaning(answer.number);
+    fprintf(stderr, "refused: %s: %s (%u), place %zu\n", what, meaning, (unsigned)answer.number, answer.place);
     return 1;
 }
 
@@ -106,16 +107,16 @@ int main(int argc, char **argv)
         return 2;
     }
     if (spg_point_number(lon, lat) != SPG_DONE)
-        return refuse("known point", spg_point_number(lon, lat), 0);
+        return refuse("known point", (struct spg_answer){spg_point_number(lon, lat), 0, 0});
     int32_t x = spg_point_x(lon, lat), y = spg_point_y(lon, lat), z = spg_point_z(lon, lat);
 
     size_t text_len = read_text(argv[1]);
     const uint8_t *name = (const uint8_t *)argv[3];
     size_t name_len = strlen(argv[3]);
-    uint32_t number = spg_import_number(text, text_len, zone, 1, name, name_len, x, y, z, sheet, sizeof sheet);
-    size_t place = spg_import_place(text, text_len, zone, 1, name, name_len, x, y, z, sizeof sheet);
-    if (number != SPG_DONE)
-        return refuse(argv[1], number, place);
-    write_sheet(argv[6], place);
+    struct spg_answer answer =
+        spg_import(text, text_len, zone, SPG_UTF8, name, name_len, x, y, z, sheet, sizeof sheet);
+    if (answer.number != SPG_DONE)
+        return refuse(argv[1], answer);
+    write_sheet(argv[6], answer.place);
     return 0;
 }

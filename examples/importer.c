@@ -1,164 +1,105 @@
 /*
  * importer: which stops of a list belong to a harbour?
  *
- *     importer SHEET STOPS
+ *     importer SHEET STOPS [STORE]
  *
  * SHEET is a zone sheet, on either grid. STOPS is a text with one stop a line, its numbers on the sheet's grid and its
  * name: `x y z name`.
  *
  * A stop belongs to the harbour if it is inside or on the boundary: such stops are printed on standard output, with
  * which of the two. What was refused, and why, goes to standard error: the sheet (then no stop is judged), or a stop.
- * Ends with 0 if nothing was refused, 1 if something was, 2 if a file could not be read.
+ * Ends with 0 if nothing was refused, 1 if something was, 2 if a file could not be read or written.
  *
  * The stops are judged in feeds, many in one call, so that the sheet is checked once for all of them.
  *
+ * A stop opposite the known point cannot be judged from it (18). With STORE the sheet gets a second known point as soon
+ * as there is such a stop: the first of the stops beside it that will do. The stop is judged again from that one, and
+ * the new sheet is written to the file STORE, for later runs to take.
+ *
  *     cc -o importer importer.c $(pkg-config --cflags --libs spargolutta)
  */
-#include <errno.h>
-#include <spargolutta.h>
-#include <stdbool.h>
-#include <stdio.h>
-#include <stdlib.h>
-#include <string.h>
-
-#define FEED_MOST 4096 /* stops in a feed */
-#define QUERY 12       /* bytes of a query, and of its result */
-
-struct stop {
-    char line[1024];
-    const char *name; /* in the line; NULL if that is not 'x y z name', and then it has no query */
-};
+#include "stops.h"
 
 /* One byte more than a sheet can have: a longer file is refused by that byte, if not before. */
-static uint8_t sheet[49320];
-static struct stop stops[FEED_MOST];
-static uint8_t queries[QUERY * FEED_MOST];
-static uint8_t results[QUERY * FEED_MOST];
+static uint8_t sheet[SPG_SHEET_MOST + 1];
+static size_t sheet_len;
+static bool has_second; /* it has got a second known point */
+static struct feed feed;
 
-static FILE *open_or_exit(const char *path)
+/* Writes the sheet anew, with the second known point at `second`, and stores it; whether it was accepted. */
+static bool write_second(const uint8_t *second, const char *store)
 {
-    FILE *file = fopen(path, "rb");
-    if (file == NULL) {
-        perror(path);
-        exit(2);
-    }
-    return file;
-}
-
-static void close_or_exit(FILE *file, const char *path)
-{
-    if (ferror(file)) {
-        fprintf(stderr, "%s: cannot be read\n", path);
-        exit(2);
-    }
-    fclose(file);
-}
-
-static uint32_t word_at(const uint8_t *bytes)
-{
-    return (uint32_t)bytes[0] << 24 | (uint32_t)bytes[1] << 16 | (uint32_t)bytes[2] << 8 | bytes[3];
-}
-
-/* Reads a number, puts it as four bytes and moves the text past it. */
-static bool read_number(const char **text, uint8_t *bytes)
-{
-    char *end;
-    errno = 0;
-    long long value = strtoll(*text, &end, 10);
-    if (end == *text || errno != 0 || value < INT32_MIN || INT32_MAX < value)
+    static uint8_t vertices[SPG_POINT_SIZE * SPG_VERTICES_MOST], written[SPG_SHEET_MOST];
+    if (spg_vertices_number(sheet, sheet_len, vertices, sizeof vertices) != SPG_DONE)
         return false;
-    *text = end;
-    for (int k = 0; k < 4; k++)
-        bytes[k] = (uint8_t)((uint32_t)value >> (24 - 8 * k));
+    struct spg_answer answer = spg_write(
+        spg_sheet_zone(sheet, sheet_len), spg_sheet_charset(sheet, sheet_len),
+        sheet + spg_sheet_name_place(sheet, sheet_len), spg_sheet_name_length(sheet, sheet_len),
+        spg_sheet_known_x(sheet, sheet_len), spg_sheet_known_y(sheet, sheet_len), spg_sheet_known_z(sheet, sheet_len),
+        spg_coordinate_at(second), spg_coordinate_at(second + 4), spg_coordinate_at(second + 8), vertices,
+        SPG_POINT_SIZE * spg_sheet_vertices(sheet, sheet_len), spg_sheet_grid(sheet, sheet_len), written,
+        sizeof written);
+    if (answer.number != SPG_DONE)
+        return false;
+    sheet_len = answer.place;
+    memcpy(sheet, written, sheet_len);
+    FILE *file = open_or_exit(store, "wb");
+    fwrite(sheet, 1, sheet_len, file);
+    close_or_exit(file, store);
+    has_second = true;
     return true;
 }
 
-/* Reads the stop's line into its name and its query; whether it has them. */
-static bool read_stop(struct stop *stop, uint8_t *query)
+/* Chooses a second known point for the sheet among the stops of the feed; whether it has one now. */
+static bool add_second(const char *store)
 {
-    const char *name = stop->line;
-    stop->line[strcspn(stop->line, "\r\n")] = '\0';
-    stop->name = NULL;
-    if (!read_number(&name, query) || !read_number(&name, query + 4) || !read_number(&name, query + 8))
+    size_t length = SPG_POINT_SIZE * feed.n;
+    if (spg_choose_number(sheet, sheet_len, feed.queries, length) != SPG_DONE)
         return false;
-    stop->name = name + strspn(name, " \t");
-    return true;
+    size_t chosen = spg_choose_place(sheet, sheet_len, feed.queries, length);
+    return write_second(feed.queries + SPG_POINT_SIZE * chosen, store);
 }
 
-/* Reads the lines of a feed, and its queries one after the other; how many lines there were. */
-static size_t read_stops(FILE *file, size_t *queries_len)
+/* Prints what became of stop i; whether it was accepted. */
+static bool print_stop(size_t i, const char *store)
 {
-    size_t n = 0;
-    *queries_len = 0;
-    while (n < FEED_MOST && fgets(stops[n].line, sizeof stops[n].line, file) != NULL) {
-        if (read_stop(&stops[n], queries + *queries_len))
-            *queries_len += QUERY;
-        n++;
-    }
-    return n;
-}
-
-/* Prints what became of a stop; whether it was accepted. */
-static bool print_stop(const char *name, const uint8_t *result)
-{
-    uint32_t number = word_at(result), place = word_at(result + 4);
-    switch (number) {
-    case SPG_INSIDE:
-        printf("%s: %s\n", name, spg_meaning(number));
-        return true;
-    case SPG_BOUNDARY:
-        printf("%s: %s, side %u\n", name, spg_meaning(number), (unsigned)place);
-        return true;
-    case SPG_OUTSIDE:
-        return true;
-    default:
-        fprintf(stderr, "refused: %s: %s (%u)\n", name, spg_meaning(number), (unsigned)number);
+    struct spg_answer answer = spg_result_at(feed.results, i);
+    const uint8_t *query = feed.queries + SPG_POINT_SIZE * i;
+    if (feed.names[i] == NULL) {
+        fprintf(stderr, "refused: '%s' is not 'x y z name'\n", feed.lines[i]);
         return false;
     }
-}
-
-/* Prints what became of the first n stops; whether all were accepted. */
-static bool print_stops(size_t n)
-{
-    const uint8_t *result = results;
-    bool accepted = true;
-    for (size_t i = 0; i < n; i++) {
-        if (stops[i].name == NULL) {
-            fprintf(stderr, "refused: '%s' is not 'x y z name'\n", stops[i].line);
-            accepted = false;
-            continue;
-        }
-        if (!print_stop(stops[i].name, result))
-            accepted = false;
-        result += QUERY;
-    }
-    return accepted;
+    if (answer.number == SPG_QUERY_OPPOSITE && (has_second || (store != NULL && add_second(store))))
+        answer = spg_judge(sheet, sheet_len, spg_coordinate_at(query), spg_coordinate_at(query + 4),
+                           spg_coordinate_at(query + 8));
+    if (SPG_IS_REFUSAL(answer.number))
+        print_refusal(feed.names[i], answer.number, answer.place);
+    else if (answer.number == SPG_BOUNDARY)
+        printf("%s: %s, side %zu\n", feed.names[i], spg_meaning(answer.number), answer.place);
+    else if (answer.number == SPG_INSIDE)
+        printf("%s: %s\n", feed.names[i], spg_meaning(answer.number));
+    return !SPG_IS_REFUSAL(answer.number);
 }
 
 int main(int argc, char **argv)
 {
-    if (argc != 3) {
-        fprintf(stderr, "usage: importer SHEET STOPS\n");
+    if (argc != 3 && argc != 4) {
+        fprintf(stderr, "usage: importer SHEET STOPS [STORE]\n");
         return 2;
     }
-    FILE *file = open_or_exit(argv[1]);
-    size_t sheet_len = fread(sheet, 1, sizeof sheet, file);
-    close_or_exit(file, argv[1]);
-
-    file = open_or_exit(argv[2]);
-    size_t n, queries_len;
+    sheet_len = read_file(argv[1], sheet, sizeof sheet);
+    FILE *stops = open_or_exit(argv[2], "rb");
     bool accepted = true;
     do {
-        n = read_stops(file, &queries_len);
-        uint32_t number = spg_feed_number(sheet, sheet_len, queries, queries_len, results, sizeof results);
-        if (number != SPG_DONE) {
-            size_t place = spg_feed_place(sheet, sheet_len, queries, queries_len, sizeof results);
-            fprintf(stderr, "refused: %s: %s (%u), place %zu\n", argv[1], spg_meaning(number), (unsigned)number, place);
+        read_feed(stops, &feed);
+        if (judge_feed(sheet, sheet_len, &feed) != SPG_DONE) {
+            print_refusal(argv[1], spg_sheet_number(sheet, sheet_len), spg_sheet_place(sheet, sheet_len));
             return 1;
         }
-        if (!print_stops(n))
-            accepted = false;
-    } while (n == FEED_MOST);
-    close_or_exit(file, argv[2]);
+        for (size_t i = 0; i < feed.n; i++)
+            if (!print_stop(i, argc == 4 ? argv[3] : NULL))
+                accepted = false;
+    } while (feed.n == FEED_MOST);
+    close_or_exit(stops, argv[2]);
     return accepted ? 0 : 1;
 }

@@ -15,23 +15,7 @@
  *
  *     cc -o which_harbour which_harbour.c $(pkg-config --cflags --libs spargolutta)
  */
-#include <errno.h>
-#include <spargolutta.h>
-#include <stdbool.h>
-#include <stdio.h>
-#include <stdlib.h>
-#include <string.h>
-
-#define SHEETS_MOST 64
-#define SHEET_MOST 49319 /* bytes of a sheet */
-#define FEED_MOST 4096   /* stops in a feed */
-#define QUERY 12         /* bytes of a query, and of its result */
-
-struct stop {
-    char line[1024];
-    const char *name;          /* in the line; NULL if that is not 'x y z name', and then it has no query */
-    uint64_t inside, boundary; /* sets of harbours: bit i is sheet i of the book */
-};
+#include "stops.h"
 
 struct harbour {
     const uint8_t *sheet;
@@ -41,161 +25,81 @@ struct harbour {
 };
 
 /* One byte more than a book can have: a longer file is refused by that byte, if not before. */
-static uint8_t book[SHEETS_MOST * SHEET_MOST + 1];
-static struct harbour harbours[SHEETS_MOST];
-static struct stop stops[FEED_MOST];
-static uint8_t queries[QUERY * FEED_MOST];
-static uint8_t results[QUERY * FEED_MOST];
+static uint8_t book[SPG_SHEETS_MOST * SPG_SHEET_MOST + 1];
+static struct harbour harbours[SPG_SHEETS_MOST];
+static size_t harbours_len;
+static struct feed feed;
+static uint64_t inside[FEED_MOST], boundary[FEED_MOST]; /* of each stop, a set: bit i is harbour i */
 static bool accepted = true;
 
-static FILE *open_or_exit(const char *path)
-{
-    FILE *file = fopen(path, "rb");
-    if (file == NULL) {
-        perror(path);
-        exit(2);
-    }
-    return file;
-}
-
-static void close_or_exit(FILE *file, const char *path)
-{
-    if (ferror(file)) {
-        fprintf(stderr, "%s: cannot be read\n", path);
-        exit(2);
-    }
-    fclose(file);
-}
-
-static uint32_t word_at(const uint8_t *bytes)
-{
-    return (uint32_t)bytes[0] << 24 | (uint32_t)bytes[1] << 16 | (uint32_t)bytes[2] << 8 | bytes[3];
-}
-
-/* The grid of a sheet whose fields are sound. Before the tag of its vertices only the name has no fixed length. */
-static uint32_t grid_of(const uint8_t *sheet)
-{
-    size_t tag = 29 + ((size_t)sheet[12] << 8 | sheet[13]);
-    return sheet[tag] == 7;
-}
-
+/* Says what refused a stop, or that a harbour is refused itself. */
 static void refuse(const char *what, uint32_t zone, uint32_t number)
 {
     fprintf(stderr, "refused: %s, zone %u: %s (%u)\n", what, (unsigned)zone, spg_meaning(number), (unsigned)number);
     accepted = false;
 }
 
-/* Whether it judges the stops. The query 0, 0, 0 asks about the sheet alone: 17 says that it is good. */
-static bool is_used(const struct harbour *h, uint32_t grid)
+/* A harbour of the book, whose fields are sound; the first of them has the zone number behind its three head bytes. */
+static struct harbour harbour_at(size_t at, size_t size, uint32_t grid)
 {
-    if (grid_of(h->sheet) != grid)
-        return false;
-    uint32_t number = spg_judge_number(h->sheet, h->size, 0, 0, 0);
-    if (number != SPG_QUERY_OFF_GRID)
-        refuse("harbour", h->zone, number);
-    return number == SPG_QUERY_OFF_GRID;
+    struct harbour h = {book + at, size, spg_number_at(book + at + 3), false};
+    uint32_t number = spg_sheet_number(h.sheet, h.size);
+    if (number != SPG_DONE)
+        refuse("harbour", h.zone, number);
+    else
+        h.used = spg_sheet_grid(h.sheet, h.size) == grid;
+    return h;
 }
 
-/* Finds the harbours of the book; how many there are. A book that is refused ends the program. */
-static size_t find_harbours(const char *path, size_t book_len, uint32_t grid)
+/* Finds the harbours of the book. A book that is refused ends the program. */
+static void find_harbours(const char *path, size_t book_len, uint32_t grid)
 {
-    uint32_t number = spg_book_number(book, book_len, 0, 0, 0, 0);
+    uint32_t number = spg_book_number(book, book_len, grid, 0, 0, 0);
     if (number != SPG_DONE) {
-        size_t place = spg_book_place(book, book_len, 0, 0, 0, 0);
-        fprintf(stderr, "refused: %s: %s (%u), place %zu\n", path, spg_meaning(number), (unsigned)number, place);
+        print_refusal(path, number, spg_book_place(book, book_len, grid, 0, 0, 0));
         exit(1);
     }
-    size_t n = 0, at = 0, size;
+    size_t at = 0, size;
     while ((size = spg_book_next_count(book, book_len, at)) > 0) {
-        harbours[n] = (struct harbour){book + at, size, word_at(book + at + 3), false};
-        harbours[n].used = is_used(&harbours[n], grid);
-        n++;
+        harbours[harbours_len++] = harbour_at(at, size, grid);
         at += size;
     }
-    return n;
 }
 
-/* Reads a number, puts it as four bytes and moves the text past it. */
-static bool read_number(const char **text, uint8_t *bytes)
-{
-    char *end;
-    errno = 0;
-    long long value = strtoll(*text, &end, 10);
-    if (end == *text || errno != 0 || value < INT32_MIN || INT32_MAX < value)
-        return false;
-    *text = end;
-    for (int k = 0; k < 4; k++)
-        bytes[k] = (uint8_t)((uint32_t)value >> (24 - 8 * k));
-    return true;
-}
-
-/* Reads the stop's line into its name and its query; whether it has them. */
-static bool read_stop(struct stop *stop, uint8_t *query)
-{
-    const char *name = stop->line;
-    stop->line[strcspn(stop->line, "\r\n")] = '\0';
-    stop->name = NULL;
-    stop->inside = stop->boundary = 0;
-    if (!read_number(&name, query) || !read_number(&name, query + 4) || !read_number(&name, query + 8))
-        return false;
-    stop->name = name + strspn(name, " \t");
-    return true;
-}
-
-/* Reads the lines of a feed, and its queries one after the other; how many lines there were. */
-static size_t read_stops(FILE *file, size_t *queries_len)
-{
-    size_t n = 0;
-    *queries_len = 0;
-    while (n < FEED_MOST && fgets(stops[n].line, sizeof stops[n].line, file) != NULL) {
-        if (read_stop(&stops[n], queries + *queries_len))
-            *queries_len += QUERY;
-        n++;
-    }
-    return n;
-}
-
-/* Judges the first n stops by harbour i and puts it into the sets of those that it holds. */
-static void judge_stops(size_t i, size_t n, size_t queries_len)
+/* Judges the feed by harbour i and puts it into the sets of the stops that it holds. */
+static void judge_stops(size_t i)
 {
     const struct harbour *h = &harbours[i];
-    const uint8_t *result = results;
-    if (!h->used || spg_feed_number(h->sheet, h->size, queries, queries_len, results, sizeof results) != SPG_DONE)
+    if (!h->used || judge_feed(h->sheet, h->size, &feed) != SPG_DONE)
         return;
-    for (size_t k = 0; k < n; k++) {
-        if (stops[k].name == NULL)
-            continue;
-        uint32_t verdict = word_at(result);
-        result += QUERY;
-        if (verdict == SPG_INSIDE)
-            stops[k].inside |= (uint64_t)1 << i;
-        else if (verdict == SPG_BOUNDARY)
-            stops[k].boundary |= (uint64_t)1 << i;
-        else if (verdict != SPG_OUTSIDE)
-            refuse(stops[k].name, h->zone, verdict);
+    for (size_t k = 0; k < feed.n; k++) {
+        uint32_t number = spg_result_at(feed.results, k).number;
+        inside[k] |= (uint64_t)(number == SPG_INSIDE) << i;
+        boundary[k] |= (uint64_t)(number == SPG_BOUNDARY) << i;
+        if (feed.names[k] != NULL && SPG_IS_REFUSAL(number))
+            refuse(feed.names[k], h->zone, number);
     }
 }
 
 static void print_set(const char *what, uint64_t set)
 {
-    printf(" %s", what);
-    for (size_t i = 0; i < SHEETS_MOST; i++)
+    if (set != 0)
+        printf(" %s", what);
+    for (size_t i = 0; i < harbours_len; i++)
         if (set >> i & 1)
             printf(" %u", (unsigned)harbours[i].zone);
 }
 
-static void print_stop(const struct stop *stop)
+static void print_stop(size_t k)
 {
-    if (stop->name == NULL) {
-        fprintf(stderr, "refused: '%s' is not 'x y z name'\n", stop->line);
+    if (feed.names[k] == NULL) {
+        fprintf(stderr, "refused: '%s' is not 'x y z name'\n", feed.lines[k]);
         accepted = false;
         return;
     }
-    printf("%s:", stop->name);
-    if (stop->inside != 0)
-        print_set("inside", stop->inside);
-    if (stop->boundary != 0)
-        print_set("boundary", stop->boundary);
+    printf("%s:", feed.names[k]);
+    print_set("inside", inside[k]);
+    print_set("boundary", boundary[k]);
     putchar('\n');
 }
 
@@ -205,20 +109,19 @@ int main(int argc, char **argv)
         fprintf(stderr, "usage: which_harbour BOOK GRID STOPS\n");
         return 2;
     }
-    FILE *file = open_or_exit(argv[1]);
-    size_t book_len = fread(book, 1, sizeof book, file);
-    close_or_exit(file, argv[1]);
-    size_t harbours_len = find_harbours(argv[1], book_len, (uint32_t)strtoul(argv[2], NULL, 10));
+    size_t book_len = read_file(argv[1], book, sizeof book);
+    find_harbours(argv[1], book_len, (uint32_t)strtoul(argv[2], NULL, 10));
 
-    file = open_or_exit(argv[3]);
-    size_t n, queries_len;
+    FILE *stops = open_or_exit(argv[3], "rb");
     do {
-        n = read_stops(file, &queries_len);
+        read_feed(stops, &feed);
+        memset(inside, 0, sizeof inside);
+        memset(boundary, 0, sizeof boundary);
         for (size_t i = 0; i < harbours_len; i++)
-            judge_stops(i, n, queries_len);
-        for (size_t k = 0; k < n; k++)
-            print_stop(&stops[k]);
-    } while (n == FEED_MOST);
-    close_or_exit(file, argv[3]);
+            judge_stops(i);
+        for (size_t k = 0; k < feed.n; k++)
+            print_stop(k);
+    } while (feed.n == FEED_MOST);
+    close_or_exit(stops, argv[3]);
     return accepted ? 0 : 1;
 }

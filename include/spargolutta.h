@@ -1,24 +1,51 @@
 /*
  * spargolutta.h: does a point lie inside, outside or on the boundary of a polygon on the sphere?
  *
- * The polygon comes as a zone sheet (bytes) and the query as three whole numbers. Five calls take the same arguments
- * and each fetches one part of the same answer: its number, its place, its count, its sum, the sides looked at. Three
- * more judge a feed, any number of queries to one sheet, two choose a second known point for a sheet, and five compare
- * two sheets. Three check whether an outline is simple, by its vertices alone, and nine ask about a book, up to 64
- * sheets joined end to end. Two make a sheet from a GeoJSON text, and four give the grid numbers of a longitude and a
- * latitude. All judging on the coarse grid is in whole numbers. On the fine grid floats decide only where their sign is
- * proved to be right, and whole numbers elsewhere: no answer depends on rounding.
+ * The polygon comes as a zone sheet (bytes) and the query as three whole numbers. spg_judge gives the whole answer to
+ * one query, and a feed those to any number of queries. Other calls choose a second known point for a sheet, compare
+ * two sheets, check whether an outline is simple, ask about a book (up to 64 sheets joined end to end), make a sheet
+ * from a GeoJSON text or from its parts, and hand out the parts of a sheet. A call hands out one number: where an
+ * answer has several parts, several calls take the same arguments and each fetches one of them.
+ *
+ * All judging on the coarse grid is in whole numbers. On the fine grid floats decide only where their sign is proved to
+ * be right, and whole numbers elsewhere: no answer depends on rounding.
  *
  *     cc client.c $(pkg-config --cflags --libs spargolutta)
  *
- * The calls are written in Rattle (crate spargolutta, functions of the same names) and proved to give the answers of
- * the table below for all bytes and all queries. Nothing checks the declarations of this file against that source.
+ * C99 or later, or C++. The calls are written in Rattle (crate spargolutta, functions of the same names) and proved to
+ * give the answers of the table below for all bytes and all numbers. Nothing but tests checks the declarations of this
+ * file against that source.
  *
- * A point is a direction from the centre: x, y, z, whole numbers of at most the grid's limit in size, not all zero. The
- * coarse grid has the limit 1,048,576 (2^20), and a step of it is about six metres on the Earth: it does for harbours
- * and coasts. The fine grid has the limit 67,108,864 (2^26), and a step of ten centimetres: take it where berths are to
- * be told apart; calls on it take up to a third longer. A sheet says its grid by the tag of its vertices, for all its
- * points. Queries and candidates are on their sheet's grid; a query to a book names its own.
+ * What holds of all calls:
+ *
+ *     input    Any bytes, lengths and numbers will do: what is wrong gets its refusal. A pointer may be NULL where its
+ *              length is 0.
+ *     memory   Only the bytes named are touched, and only those of a buffer that is not const are written; with a
+ *              refusal none is. A buffer that is written must not overlap what the same call reads: the compiled code
+ *              may assume it. No call keeps state or allocates, and each needs less than 64 KiB of stack.
+ *     threads  Any number may call at once, on the same sheet too, each with buffers of its own to write to.
+ *     time     Each call returns. It checks the whole sheet and works out the whole answer, in time that grows with
+ *              the number of vertices; where it grows faster, the call says so.
+ *     floats   Calls on a sheet with tag 7 or on grid 1, and imports, need the default rounding mode, to nearest
+ *              (fesetround(FE_TONEAREST)), which a program has unless it sets another. All others work in any.
+ *
+ * A point is a direction from the centre: x, y, z, whole numbers of at most the grid's limit in size, not all zero. x
+ * points to longitude 0 on the equator, y to 90 degrees east on the equator, z to the north pole:
+ *
+ *     x = limit * cos(latitude) * cos(longitude)
+ *     y = limit * cos(latitude) * sin(longitude)
+ *     z = limit * sin(latitude)
+ *
+ * Only the direction counts: (1, 0, 0) and (1048576, 0, 0) are one point. But short vectors have few directions, so use
+ * the limit as the scale; spg_point_x, _y and _z do, on the coarse grid.
+ *
+ *     grid    number  limit              a step on the Earth   take it for
+ *     coarse  0       1,048,576 (2^20)   six metres            harbours and coasts
+ *     fine    1       67,108,864 (2^26)  ten centimetres       berths; calls on it take up to a third longer
+ *
+ * A sheet says its grid by the tag of its vertices, for all its points. Queries and candidates are on their sheet's
+ * grid; a query to a book names its own. In bytes a point is twelve: x, y, z, signed 32-bit, big-endian. So it stands
+ * in sheets, feeds, candidates and lists of vertices alike; spg_put_point puts it there.
  *
  * Side i (edge i) is the shorter arc from vertex i to the next one; the last side goes back to vertex 0. The known
  * point (reference point) is inside by the sheet's own claim. All numbering starts at 0.
@@ -28,6 +55,7 @@
  *
  * A zone sheet has 69 to 49,319 bytes: five fields in this order, each a one-byte tag, a two-byte length and a body,
  * and a sixth if there is a second known point. All numbers are big-endian, coordinates are signed 32-bit.
+ * spg_write_number writes one, and spg_sheet_zone and its likes read it.
  *
  *     tag  body                                                       length
  *     1    zone number, unsigned                                      4
@@ -43,15 +71,46 @@
  * nor 16), is not of the known point's direction, and is inside as judged from the known point. spg_choose_number
  * finds one that does. A library from before tag 6 refuses a sheet that has it, with 24, and one from before tag 7
  * refuses that with 21.
- *
- * Calls on a sheet with tag 7, and imports, need the default rounding mode of floats, to nearest
- * (fesetround(FE_TONEAREST)), which a program has unless it sets another. Calls on a sheet with tag 5 work in any.
  */
 #ifndef SPARGOLUTTA_H
 #define SPARGOLUTTA_H
 
 #include <stddef.h>
 #include <stdint.h>
+
+/* This header's version. Major: a call or a number means something else. Minor: calls or numbers were added. */
+#define SPG_VERSION_MAJOR 1
+#define SPG_VERSION_MINOR 0
+#define SPG_VERSION_PATCH 0
+
+#define SPG_COARSE 0             /* the number of the coarse grid, and its limit */
+#define SPG_GRID 1048576
+#define SPG_FINE 1               /* the number of the fine grid, and its limit */
+#define SPG_GRID_FINE 67108864
+#define SPG_POINT_SIZE 12        /* bytes of a point, and of a result */
+#define SPG_VERTICES_MOST 4096   /* vertices of an outline */
+#define SPG_NAME_MOST 120        /* bytes of a name */
+#define SPG_SHEET_MOST 49319     /* bytes of a sheet */
+#define SPG_SHEETS_MOST 64       /* sheets of a book */
+
+#define SPG_UTF8 1               /* the character sets */
+#define SPG_ISO_8859_7 2
+#define SPG_WINDOWS_1253 3
+
+/* For this file alone: what a compiler may know of a call. Others than gcc and clang are told nothing. */
+#if defined(__GNUC__)
+#define SPG_PURE __attribute__((pure, warn_unused_result))   /* writes nothing, goes by the arguments and their bytes */
+#define SPG_CONST __attribute__((const, warn_unused_result)) /* goes by the arguments alone */
+#define SPG_USED __attribute__((warn_unused_result))
+#define SPG_NONNULL __attribute__((nonnull))
+#define SPG_RESTRICT __restrict__
+#else
+#define SPG_PURE
+#define SPG_CONST
+#define SPG_USED
+#define SPG_NONNULL
+#define SPG_RESTRICT
+#endif
 
 #ifdef __cplusplus
 extern "C" {
@@ -64,12 +123,29 @@ extern "C" {
  * present (20), tag (21; the fifth may be 5 or 7), length (22), body present (20), character set (23). A byte 6 after
  * the vertices starts the sixth field (20, 22), any other is 24, and so is any byte after the sixth. Then come 11 to
  * 16, each over the whole list before the next, and 19; then the query's 17 and 18. The first that holds is given.
- * Of a sheet's calls 10 is of candidates alone: in a sheet 22 comes before it. An import (spg_import_number) gives 30,
- * 31, 32 and 33 in this order, and then what writing a sheet refuses: 23, 22, 10 to 16, 25. 0, 10, 25 to 27 and 30 to 36
- * are never the answer to a query by one sheet. The basin profile has its own order: 10, 28, 11 to 14, each over the
- * whole list before the next, 34, 35; no other call gives 28, 34 or 35. In a book a sheet on another grid than the
- * query's puts its zone into the set of those refused.
+ * Of a sheet's calls 10 is of candidates alone: in a sheet 22 comes before it. Writing a sheet (spg_write_number) has
+ * the order 23, 22, 10, 28, 11 to 16, 19, 25. An import (spg_import_number) gives 30, 31, 32 and 33 in this order, and
+ * then what writing refuses. The basin profile has its own: 10, 28, 11 to 14, each over the whole list before the next,
+ * 34, 35. 0, 10, 25 to 28 and 30 to 36 are never the answer to a query by one sheet. In a book a sheet on another grid
+ * than the query's puts its zone into the set of those refused.
+ *
+ * What the refusals that everybody meets usually mean:
+ *
+ *     11 at vertex 0   the numbers are little-endian, degrees times some power of ten, or of the other grid
+ *     13               the ring repeats its first vertex at its end, as GeoJSON's do: leave that out; or two vertices
+ *                      are so near (under six metres on the coarse grid) that they became one point: leave one out
+ *     16               the known point is in line with a side, which is easily so where numbers are round: move it by
+ *                      some steps of the grid
+ *     17               the query is on the other grid, or in degrees
+ *     18               choose a second known point (spg_choose_number), once for the harbour
+ *     20 at byte 0     the file was not read, or is empty
+ *     22               a name of no bytes, under three vertices, or lengths that are little-endian
+ *
+ * Later versions may add numbers, refusals all of them: treat one of 4 and up that you do not know as a refusal, as
+ * SPG_IS_REFUSAL does.
  */
+#define SPG_IS_REFUSAL(number) ((number) > 3)
+
 enum spg_number {
                                 /* meaning                                             place / count                  */
     SPG_DONE = 0,               /* a feed was judged and its results are written                                      */
@@ -78,7 +154,7 @@ enum spg_number {
                                 /* a book was judged                                   count: zones that hold it      */
                                 /* a step found a sheet of a book                      its start / its length         */
                                 /* two sheets were compared                            see spg_compare_number         */
-                                /* a text was imported and its sheet is written        place: the sheet's length      */
+                                /* a sheet was imported, written or read               place: the sheet's length      */
     SPG_INSIDE = 1,             /* inside                                              count: sides crossed           */
     SPG_OUTSIDE = 2,            /* outside                                             count: sides crossed           */
     SPG_BOUNDARY = 3,           /* on a border side                                    place: lowest such side        */
@@ -97,9 +173,9 @@ enum spg_number {
     SPG_SHEET_LENGTH = 22,      /* length not allowed                                  place: where the field begins  */
     SPG_SHEET_CHARSET = 23,     /* unknown character set                               place: where the field begins  */
     SPG_SHEET_TRAILING = 24,    /* bytes after the last field                          place: first such byte         */
-    SPG_SHEET_SHORT = 25,       /* an import's buffer is too short for the sheet       place: bytes needed            */
+    SPG_SHEET_SHORT = 25,       /* the buffer for a sheet is too short                 place: bytes needed            */
     SPG_QUERIES_CUT = 26,       /* a feed's queries are not whole twelves                                             */
-    SPG_RESULTS_SHORT = 27,     /* a feed's result buffer is too short                 place: bytes needed            */
+    SPG_RESULTS_SHORT = 27,     /* the buffer for results or vertices is too short     place: bytes needed            */
     SPG_BAD_GRID = 28,          /* the number of a grid is neither 0 nor 1                                            */
     SPG_NOT_A_TEXT = 30,        /* not a text that can be imported                     place: see spg_import_number   */
     SPG_POSITION_OUTSIDE = 31,  /* latitude past 90 or longitude past 180 degrees      place: lowest such position    */
@@ -110,24 +186,69 @@ enum spg_number {
     SPG_BOOK_LONG = 36          /* bytes left after 64 sheets of a book                place: first such byte         */
 };
 
+/* What the place of a number is, in the table's words; 0 for numbers that are not in it. */
+enum spg_place_kind {
+    SPG_PLACE_NONE = 0,         /* always 0 */
+    SPG_PLACE_SIDE = 1,         /* the number of a side: 3, 13, 14, 16, 35 */
+    SPG_PLACE_VERTEX = 2,       /* the number of a vertex: 11, 12 */
+    SPG_PLACE_BYTE = 3,         /* a byte of the sheet, the book or the text, from its start: 20 to 24, 30, 36 */
+    SPG_PLACE_NEEDED = 4,       /* how many bytes the buffer needs: 25, 27 */
+    SPG_PLACE_POSITION = 5,     /* the number of a position of the text: 31, 33 */
+    SPG_PLACE_CALL = 6          /* as the call says: 0 */
+};
+SPG_CONST uint32_t spg_place_kind(uint32_t number);
+
+/* An answer as a whole: what spg_judge, spg_result_at, spg_import and spg_write give. */
+struct spg_answer {
+    uint32_t number;
+    size_t place;
+    uint32_t count;
+};
+
+/* Numbers and points in bytes, big-endian, as in sheets, feeds, candidates and lists of vertices. */
+SPG_NONNULL static inline void spg_put_number(uint8_t *to, uint32_t number)
+{
+    to[0] = (uint8_t)(number >> 24);
+    to[1] = (uint8_t)(number >> 16);
+    to[2] = (uint8_t)(number >> 8);
+    to[3] = (uint8_t)number;
+}
+
+SPG_NONNULL static inline void spg_put_point(uint8_t *to, int32_t x, int32_t y, int32_t z)
+{
+    spg_put_number(to, (uint32_t)x);
+    spg_put_number(to + 4, (uint32_t)y);
+    spg_put_number(to + 8, (uint32_t)z);
+}
+
+SPG_NONNULL SPG_PURE static inline uint32_t spg_number_at(const uint8_t *from)
+{
+    return (uint32_t)from[0] << 24 | (uint32_t)from[1] << 16 | (uint32_t)from[2] << 8 | from[3];
+}
+
+/* One of a point's three numbers, which are signed: x at 0, y at 4, z at 8. */
+SPG_NONNULL SPG_PURE static inline int32_t spg_coordinate_at(const uint8_t *from)
+{
+    uint32_t number = spg_number_at(from);
+    return number <= INT32_MAX ? (int32_t)number : -(int32_t)(UINT32_MAX - number) - 1;
+}
+
 /*
- * spg_judge_number, spg_judge_place, spg_judge_count: the answer to one query, from one sheet.
+ * spg_judge_number, spg_judge_place, spg_judge_count: the answer to one query, from one sheet. spg_judge, below, gives
+ * all three at once.
  *
- * sheet, sheet_len  The sheet's bytes. Any bytes and any length will do: a bad sheet gets its refusal, an empty one
- *                   number 20, place 0. Not NULL, even where sheet_len is 0. Only these bytes are read.
- * x, y, z           The query, on the sheet's grid. Any numbers will do: off it they give 17. As 17 comes after every
- *                   check of the sheet, the query 0, 0, 0 asks about the sheet alone: 17 says that it is good.
+ * sheet, sheet_len  The sheet's bytes. A bad sheet gets its refusal, an empty one number 20, place 0.
+ * x, y, z           The query, on the sheet's grid; off it, 17. As 17 comes after every check of the sheet, the query
+ *                   0, 0, 0 asks about the sheet alone: 17 says that it is good. (So does 0 of spg_sheet_number.)
  * Result            A number of the table, its place, its count. With equal arguments the three belong together.
  *                   The point that judges is the known point or, if the sheet has a second one and the query is
  *                   opposite the first, the second.
  *
- * Nothing is written: not to the sheet, not anywhere else. The calls keep no state, allocate nothing and always return.
- * Any number of threads may call at once, on the same sheet too. Each call checks the whole sheet and works out the
- * whole answer, in time that grows with the number of vertices, and needs less than 64 KiB of stack.
+ * Nothing is written. Many corridors: each side that holds the query may cost one more pass over the vertices.
  */
-uint32_t spg_judge_number(const uint8_t *sheet, size_t sheet_len, int32_t x, int32_t y, int32_t z);
-size_t spg_judge_place(const uint8_t *sheet, size_t sheet_len, int32_t x, int32_t y, int32_t z);
-uint32_t spg_judge_count(const uint8_t *sheet, size_t sheet_len, int32_t x, int32_t y, int32_t z);
+SPG_PURE uint32_t spg_judge_number(const uint8_t *sheet, size_t sheet_len, int32_t x, int32_t y, int32_t z);
+SPG_PURE size_t spg_judge_place(const uint8_t *sheet, size_t sheet_len, int32_t x, int32_t y, int32_t z);
+SPG_PURE uint32_t spg_judge_count(const uint8_t *sheet, size_t sheet_len, int32_t x, int32_t y, int32_t z);
 /*
  * spg_judge_sum: which way the sides were crossed, for the same arguments. 1 for each side AB that the arc from the
  * point X that judges to the query P crosses with turn(A,B,X) < 0 < turn(A,B,P), -1 for each that it crosses with
@@ -138,7 +259,7 @@ uint32_t spg_judge_count(const uint8_t *sheet, size_t sheet_len, int32_t x, int3
  * counterclockwise as seen from outside the globe. The verdict does not use it: inside and outside go by the count
  * alone. A feed's results do not have it.
  */
-int32_t spg_judge_sum(const uint8_t *sheet, size_t sheet_len, int32_t x, int32_t y, int32_t z);
+SPG_PURE int32_t spg_judge_sum(const uint8_t *sheet, size_t sheet_len, int32_t x, int32_t y, int32_t z);
 /*
  * spg_judge_looked: how many sides were looked at, for the same arguments. The sides are taken in runs of 32 (0 to 31,
  * 32 to 63 and so on, the last run may be shorter), each with a box: the least and greatest x, y and z of the vertices
@@ -152,64 +273,84 @@ int32_t spg_judge_sum(const uint8_t *sheet, size_t sheet_len, int32_t x, int32_t
  * crossed nor holds the query. A feed's results do not have this number, and of an outline of up to 64 sides a feed
  * skips none: so few are looked at faster than boxes.
  */
-uint32_t spg_judge_looked(const uint8_t *sheet, size_t sheet_len, int32_t x, int32_t y, int32_t z);
+SPG_PURE uint32_t spg_judge_looked(const uint8_t *sheet, size_t sheet_len, int32_t x, int32_t y, int32_t z);
 
 /*
  * spg_feed_number, spg_feed_place, spg_feed_count: any number of queries, one sheet. The sheet is checked once.
  *
- * sheet, sheet_len      As above: any bytes, any length.
- * queries, queries_len  The queries, 12 bytes each: x, y, z, signed 32-bit, big-endian, as in the sheet and on its
- *                       grid. Any bytes and any length, none among them: a feed of no queries still checks the sheet.
+ * sheet, sheet_len      As above.
+ * queries, queries_len  The queries, 12 bytes each, on the sheet's grid (spg_put_point). None will do too: a feed of no
+ *                       queries still checks the sheet.
  * results, results_len  The result buffer, queries_len bytes or more. The calls for place and count take its length
  *                       alone.
  * Result                0, place 0, count 0 where the feed was judged; or 26, 27 or the sheet's refusal, once for the
  *                       whole feed. With the same sheet, queries and results_len the three belong together.
  *
  * spg_feed_number writes, and it alone. With 0, result i is the 12 bytes from 12 * i on: number, place and count of
- * query i as spg_judge_number, _place and _count give them, each unsigned 32-bit, big-endian. A query that is refused
- * (17, 18) spoils only its own result. The bytes past the last result stay as they were. With any other number nothing
- * at all is written.
- *
- * The result buffer must not overlap the sheet or the queries: the compiled code may assume that what it writes is not
- * what it reads. No pointer may be NULL, even where its length is 0. For the rest the calls are as those above: only
- * the bytes named are touched, they keep no state, allocate nothing, always return and need less than 64 KiB of stack.
- * Any number of threads may call at once, each with a result buffer of its own. spg_feed_place and spg_feed_count check
- * the lengths and the sheet and judge no query.
+ * query i as spg_judge_number, _place and _count give them, each unsigned 32-bit, big-endian; spg_result_at reads it. A
+ * query that is refused (17, 18) spoils only its own result. The bytes past the last result stay as they were. With any
+ * other number nothing at all is written. spg_feed_place and spg_feed_count check the lengths and the sheet and judge
+ * no query.
  */
-uint32_t spg_feed_number(const uint8_t *sheet, size_t sheet_len, const uint8_t *queries, size_t queries_len,
-                         uint8_t *results, size_t results_len);
-size_t spg_feed_place(const uint8_t *sheet, size_t sheet_len, const uint8_t *queries, size_t queries_len,
-                      size_t results_len);
-uint32_t spg_feed_count(const uint8_t *sheet, size_t sheet_len, const uint8_t *queries, size_t queries_len,
-                        size_t results_len);
+SPG_USED uint32_t spg_feed_number(const uint8_t *sheet, size_t sheet_len, const uint8_t *queries, size_t queries_len,
+                                  uint8_t *SPG_RESTRICT results, size_t results_len);
+SPG_PURE size_t spg_feed_place(const uint8_t *sheet, size_t sheet_len, const uint8_t *queries, size_t queries_len,
+                               size_t results_len);
+SPG_PURE uint32_t spg_feed_count(const uint8_t *sheet, size_t sheet_len, const uint8_t *queries, size_t queries_len,
+                                 size_t results_len);
+
+/* Result i of a feed that was judged. */
+SPG_NONNULL SPG_PURE static inline struct spg_answer spg_result_at(const uint8_t *results, size_t i)
+{
+    const uint8_t *result = results + SPG_POINT_SIZE * i;
+    struct spg_answer answer;
+    answer.number = spg_number_at(result);
+    answer.place = spg_number_at(result + 4);
+    answer.count = spg_number_at(result + 8);
+    return answer;
+}
+
+/*
+ * The whole answer to one query, by a feed of one: what spg_judge_number, _place and _count give, with the sheet
+ * checked and the query judged once (a sheet that is refused is checked twice).
+ */
+SPG_USED static inline struct spg_answer spg_judge(const uint8_t *sheet, size_t sheet_len, int32_t x, int32_t y,
+                                                   int32_t z)
+{
+    uint8_t query[SPG_POINT_SIZE], result[SPG_POINT_SIZE];
+    struct spg_answer answer = {0, 0, 0};
+    spg_put_point(query, x, y, z);
+    answer.number = spg_feed_number(sheet, sheet_len, query, sizeof query, result, sizeof result);
+    if (answer.number == SPG_DONE)
+        return spg_result_at(result, 0);
+    answer.place = spg_feed_place(sheet, sheet_len, query, sizeof query, sizeof result);
+    return answer;
+}
 
 /*
  * spg_choose_number, spg_choose_place: which candidate passes as a second known point of a sheet, the earliest of them.
  *
  * sheet, sheet_len            As above. A tag 6 that it has already is read by its bytes (20, 22, 24) and its point is
  *                             not looked at, so a sheet whose second point fails can be given another.
- * candidates, candidates_len  The candidates, 12 bytes each, as in the sheet. Any bytes and any number of them: one
- *                             that is off the grid, all zero or fails otherwise is passed over.
+ * candidates, candidates_len  The candidates, 12 bytes each (spg_put_point), any number of them: one that is off the
+ *                             grid, all zero or fails otherwise is passed over.
  * Result                      0, and as place the number of the earliest candidate that passes. Or 10 if the candidates
  *                             are not whole twelves, the sheet's refusal (20 to 24, 11 to 16), or 19 if no candidate
  *                             passes. With equal arguments the two belong together, and the count is always 0.
  *
- * Nothing is written. No pointer may be NULL, even where its length is 0. For the rest as spg_judge_number. Each
- * candidate costs up to two passes over the vertices.
+ * Nothing is written. Each candidate costs up to two passes over the vertices.
  *
  * It is made to be called once for a harbour, and not each night: an importer chooses among points of the harbour
- * (quays, say), puts the one that was chosen behind the sheet as tag 6, and stores that. All later calls on it, feeds
- * too, need no candidates.
+ * (quays, say), writes the sheet with the one that was chosen (spg_write_number), and stores that. All later calls on
+ * it, feeds too, need no candidates.
  *
- *     if (spg_choose_number(sheet, sheet_len, candidates, candidates_len) == SPG_DONE) {
- *         size_t chosen = spg_choose_place(sheet, sheet_len, candidates, candidates_len);
- *         memcpy(sheet + sheet_len, "\x06\x00\x0c", 3);                       // sheet: 15 bytes of room behind it
- *         memcpy(sheet + sheet_len + 3, candidates + 12 * chosen, 12);
- *         sheet_len += 15;                                                    // a sheet that had no tag 6 before
- *     }
+ *     if (spg_choose_number(sheet, sheet_len, candidates, candidates_len) == SPG_DONE)
+ *         second = candidates + SPG_POINT_SIZE * spg_choose_place(sheet, sheet_len, candidates, candidates_len);
  */
-uint32_t spg_choose_number(const uint8_t *sheet, size_t sheet_len, const uint8_t *candidates, size_t candidates_len);
-size_t spg_choose_place(const uint8_t *sheet, size_t sheet_len, const uint8_t *candidates, size_t candidates_len);
+SPG_PURE uint32_t spg_choose_number(const uint8_t *sheet, size_t sheet_len, const uint8_t *candidates,
+                                    size_t candidates_len);
+SPG_PURE size_t spg_choose_place(const uint8_t *sheet, size_t sheet_len, const uint8_t *candidates,
+                                 size_t candidates_len);
 
 /*
  * spg_basin_number, spg_basin_place, spg_basin_count: the basin profile. Is an outline of 3 to 512 vertices simple? It
@@ -217,20 +358,20 @@ size_t spg_choose_place(const uint8_t *sheet, size_t sheet_len, const uint8_t *c
  * Neighbours are sides that follow each other, the last and the first among them. To share means that some direction
  * lies on both closed arcs; so an outline with a corridor, walked out and back, is not simple.
  *
- * vertices, vertices_len  The vertices, 12 bytes each, as in a sheet, and no sheet around them. Any bytes and any
- *                         length: not whole twelves, or under 3 or over 4,096 vertices, are 10. Not NULL.
- * grid                    The vertices' grid: 0 for the coarse one, 1 for the fine one; any other number is 28.
+ * vertices, vertices_len  The vertices, 12 bytes each (spg_put_point), and no sheet around them. Not whole twelves, or
+ *                         under 3 or over 4,096 vertices, are 10.
+ * grid                    The vertices' grid, SPG_COARSE or SPG_FINE; any other number is 28.
  * Result                  0, place 0, count 0 where the outline is simple. Or 35, with as place the first side of a
  *                         pair that offends and as count the second: of all such pairs the one whose first side is
  *                         lowest, then the one whose second is. Or 10, 28, 11 to 14 or 34, with count 0. With equal
  *                         arguments the three belong together.
  *
- * Nothing is written. For the rest as spg_judge_number; grid 1 needs the default rounding mode, as tag 7 does. The time
- * grows with the square of the number of vertices: 512 of them take about a third of a millisecond.
+ * Nothing is written. The time grows with the square of the number of vertices: 512 of them take about a third of a
+ * millisecond.
  */
-uint32_t spg_basin_number(const uint8_t *vertices, size_t vertices_len, uint32_t grid);
-size_t spg_basin_place(const uint8_t *vertices, size_t vertices_len, uint32_t grid);
-uint32_t spg_basin_count(const uint8_t *vertices, size_t vertices_len, uint32_t grid);
+SPG_PURE uint32_t spg_basin_number(const uint8_t *vertices, size_t vertices_len, uint32_t grid);
+SPG_PURE size_t spg_basin_place(const uint8_t *vertices, size_t vertices_len, uint32_t grid);
+SPG_PURE uint32_t spg_basin_count(const uint8_t *vertices, size_t vertices_len, uint32_t grid);
 
 /*
  * spg_book_number, spg_book_place, spg_book_count, spg_book_inside, spg_book_boundary, spg_book_refused: which zones of
@@ -239,9 +380,9 @@ uint32_t spg_basin_count(const uint8_t *vertices, size_t vertices_len, uint32_t 
  * A book is up to 64 sheets joined end to end, on either grid and mixed. Zone i is its sheet i. A set has one bit a
  * zone, the first sheet lowest: zone i is in it if (set >> i & 1) is 1.
  *
- * book, book_len  The book's bytes. Any bytes and any length will do; an empty book has no zones.
- * grid            The query's grid: 0 for the coarse one, 1 for the fine one. Any other number matches no sheet.
- * x, y, z         The query, on that grid. Any numbers will do.
+ * book, book_len  The book's bytes. An empty book has no zones.
+ * grid            The query's grid, SPG_COARSE or SPG_FINE. Any other number matches no sheet.
+ * x, y, z         The query, on that grid.
  * Result          Number 0 and place 0; as count how many zones hold the query; and three sets: of the zones that the
  *                 query is inside of, that have it on their boundary, and that refuse it. Those are what
  *                 spg_judge_number says of the sheet by itself: 1, 3, or one of 11 to 19; and a sheet on another grid
@@ -252,16 +393,21 @@ uint32_t spg_basin_count(const uint8_t *vertices, size_t vertices_len, uint32_t 
  *                 are. What would be 24 in a sheet by itself starts the next sheet. With equal arguments all six belong
  *                 together.
  *
- * Nothing is written. The pointer may not be NULL, even where the length is 0. For the rest as spg_judge_number. Each
- * call checks and judges every sheet: for many queries to one book, a feed to each of its sheets is far quicker
- * (examples/which_harbour.c).
+ * Nothing is written. Each call checks and judges every sheet: for many queries to one book, a feed to each of its
+ * sheets is far quicker (examples/which_harbour.c).
  */
-uint32_t spg_book_number(const uint8_t *book, size_t book_len, uint32_t grid, int32_t x, int32_t y, int32_t z);
-size_t spg_book_place(const uint8_t *book, size_t book_len, uint32_t grid, int32_t x, int32_t y, int32_t z);
-uint32_t spg_book_count(const uint8_t *book, size_t book_len, uint32_t grid, int32_t x, int32_t y, int32_t z);
-uint64_t spg_book_inside(const uint8_t *book, size_t book_len, uint32_t grid, int32_t x, int32_t y, int32_t z);
-uint64_t spg_book_boundary(const uint8_t *book, size_t book_len, uint32_t grid, int32_t x, int32_t y, int32_t z);
-uint64_t spg_book_refused(const uint8_t *book, size_t book_len, uint32_t grid, int32_t x, int32_t y, int32_t z);
+SPG_PURE uint32_t spg_book_number(const uint8_t *book, size_t book_len, uint32_t grid, int32_t x, int32_t y,
+                                  int32_t z);
+SPG_PURE size_t spg_book_place(const uint8_t *book, size_t book_len, uint32_t grid, int32_t x, int32_t y,
+                               int32_t z);
+SPG_PURE uint32_t spg_book_count(const uint8_t *book, size_t book_len, uint32_t grid, int32_t x, int32_t y,
+                                 int32_t z);
+SPG_PURE uint64_t spg_book_inside(const uint8_t *book, size_t book_len, uint32_t grid, int32_t x, int32_t y,
+                                  int32_t z);
+SPG_PURE uint64_t spg_book_boundary(const uint8_t *book, size_t book_len, uint32_t grid, int32_t x, int32_t y,
+                                    int32_t z);
+SPG_PURE uint64_t spg_book_refused(const uint8_t *book, size_t book_len, uint32_t grid, int32_t x, int32_t y,
+                                   int32_t z);
 /*
  * spg_book_next_number, spg_book_next_place, spg_book_next_count: one step over a book, from the byte `at`. The caller
  * keeps the place: 0 at first, and after each step larger by the count.
@@ -280,16 +426,16 @@ uint64_t spg_book_refused(const uint8_t *book, size_t book_len, uint32_t grid, i
  *     }
  *     // at == book_len, or spg_book_next_number(book, book_len, at) says what is wrong there
  */
-uint32_t spg_book_next_number(const uint8_t *book, size_t book_len, size_t at);
-size_t spg_book_next_place(const uint8_t *book, size_t book_len, size_t at);
-size_t spg_book_next_count(const uint8_t *book, size_t book_len, size_t at);
+SPG_PURE uint32_t spg_book_next_number(const uint8_t *book, size_t book_len, size_t at);
+SPG_PURE size_t spg_book_next_place(const uint8_t *book, size_t book_len, size_t at);
+SPG_PURE size_t spg_book_next_count(const uint8_t *book, size_t book_len, size_t at);
 
 /*
  * spg_compare_number, spg_compare_place, spg_compare_count, spg_compare_way, spg_compare_fields: what two sheets differ
  * in, and where the right one's ring starts.
  *
- * left, left_len    Any bytes, any length, as sheet and sheet_len above.
- * right, right_len  The same.
+ * left, left_len    A sheet, as above.
+ * right, right_len  Another.
  * Result            0 where both sheets are good; else the left sheet's refusal or, if that is good, the right sheet's
  *                   (20 to 24, 11 to 16, 19), with its place, and count, way and fields 0. The sheets may be on
  *                   different grids. With equal arguments the five belong together.
@@ -305,19 +451,18 @@ size_t spg_book_next_count(const uint8_t *book, size_t book_len, size_t at);
  * Points are compared by direction, on the same grid or not: longer vectors are no difference. A second point that only
  * one sheet has is one. Way 1 is looked for before way 2, and the place is given also where the rings are the same.
  *
- * Nothing is written. No pointer may be NULL, even where its length is 0. For the rest as spg_judge_number, but for the
- * time: it is that of checking both sheets where a ring was redrawn; two rings of 4,096 vertices that are not the same
- * can take over a thousand times as long (docs/DECISIONS.md has figures).
+ * Nothing is written. The time is that of checking both sheets where a ring was redrawn; two rings of 4,096 vertices
+ * that are not the same can take over a thousand times as long (docs/DECISIONS.md has figures).
  *
  *     uint64_t fields = spg_compare_fields(left, left_len, right, right_len);
  *     for (; fields != 0; fields >>= 8)
  *         printf("field %d differs\n", (int)(fields & 0xff));
  */
-uint32_t spg_compare_number(const uint8_t *left, size_t left_len, const uint8_t *right, size_t right_len);
-size_t spg_compare_place(const uint8_t *left, size_t left_len, const uint8_t *right, size_t right_len);
-uint32_t spg_compare_count(const uint8_t *left, size_t left_len, const uint8_t *right, size_t right_len);
-uint32_t spg_compare_way(const uint8_t *left, size_t left_len, const uint8_t *right, size_t right_len);
-uint64_t spg_compare_fields(const uint8_t *left, size_t left_len, const uint8_t *right, size_t right_len);
+SPG_PURE uint32_t spg_compare_number(const uint8_t *left, size_t left_len, const uint8_t *right, size_t right_len);
+SPG_PURE size_t spg_compare_place(const uint8_t *left, size_t left_len, const uint8_t *right, size_t right_len);
+SPG_PURE uint32_t spg_compare_count(const uint8_t *left, size_t left_len, const uint8_t *right, size_t right_len);
+SPG_PURE uint32_t spg_compare_way(const uint8_t *left, size_t left_len, const uint8_t *right, size_t right_len);
+SPG_PURE uint64_t spg_compare_fields(const uint8_t *left, size_t left_len, const uint8_t *right, size_t right_len);
 
 /*
  * spg_import_number, spg_import_place: a zone sheet from a GeoJSON text, on the coarse grid and with no second point.
@@ -328,36 +473,145 @@ uint64_t spg_compare_fields(const uint8_t *left, size_t left_len, const uint8_t 
  *                   and no exponent. Holes are drawn with corridors, and a ring over the 180th degree is cut there. The
  *                   last position equals the first and is dropped. Sides here are arcs, and RFC 7946's are straight in
  *                   degrees: so neighbours are at most one degree apart in each coordinate, as plain numbers.
- *                   Any bytes and any length will do: what is not such a text gets 30.
- * zone, charset     Tags 1 and 2 of the sheet. A charset other than 1 to 3 is 23, place 0.
+ *                   What is not such a text gets 30.
+ * zone, charset     Tags 1 and 2 of the sheet. A charset other than 1 to 3 (SPG_UTF8 and its likes) is 23, place 0.
  * name, name_len    Tag 3, 1 to 120 bytes; other lengths are 22, place 0.
  * known_x, _y, _z   Tag 4: a point inside, on the coarse grid; spg_point_x and so on give it from degrees.
- * sheet, sheet_len  The buffer, 32 bytes and the name's and 12 for each vertex; the place of 25 says how many.
- *                   spg_import_place takes its length alone.
+ * sheet, sheet_len  The buffer, 32 bytes and the name's and 12 for each vertex; the place of 25 says how many, and
+ *                   SPG_SHEET_MOST always do. spg_import_place takes its length alone.
  * Result            0, and as place the sheet's length; or a refusal. The place of 30 is the length of the longest
  *                   beginning that a text of the kind above can have: its first wrong byte, or the text's length if it
  *                   stops too early. Positions are numbered from 0 and the last one counts. With equal arguments the
  *                   two belong together, and the count is always 0.
  *
  * spg_import_number writes, and it alone: with 0 the sheet into the first bytes of the buffer, and nothing else. The
- * buffer must not overlap the text or the name. No pointer may be NULL, even where its length is 0. For the rest as
- * spg_judge_number: no state, nothing allocated, less than 64 KiB of stack. The sheet's vertices are the grid numbers
- * that spg_point_x, _y and _z give for the text's positions. Floats are needed in the default rounding mode.
- *
+ * sheet's vertices are the grid numbers that spg_point_x, _y and _z give for the text's positions.
+ */
+SPG_USED uint32_t spg_import_number(const uint8_t *text, size_t text_len, uint32_t zone, uint32_t charset,
+                                    const uint8_t *name, size_t name_len, int32_t known_x, int32_t known_y,
+                                    int32_t known_z, uint8_t *SPG_RESTRICT sheet, size_t sheet_len);
+SPG_PURE size_t spg_import_place(const uint8_t *text, size_t text_len, uint32_t zone, uint32_t charset,
+                                 const uint8_t *name, size_t name_len, int32_t known_x, int32_t known_y,
+                                 int32_t known_z, size_t sheet_len);
+
+/* Both at once. */
+SPG_USED static inline struct spg_answer spg_import(const uint8_t *text, size_t text_len, uint32_t zone,
+                                                    uint32_t charset, const uint8_t *name, size_t name_len,
+                                                    int32_t known_x, int32_t known_y, int32_t known_z,
+                                                    uint8_t *SPG_RESTRICT sheet, size_t sheet_len)
+{
+    struct spg_answer answer = {0, 0, 0};
+    answer.number = spg_import_number(text, text_len, zone, charset, name, name_len, known_x, known_y, known_z, sheet,
+                                      sheet_len);
+    answer.place = spg_import_place(text, text_len, zone, charset, name, name_len, known_x, known_y, known_z,
+                                    sheet_len);
+    return answer;
+}
+
+/*
  * spg_point_number, spg_point_x, spg_point_y, spg_point_z: the grid numbers of a position on its own, in ten-millionths
  * of a degree. The number is 0, or 31 where the position is out of range; then the grid numbers are 0. Each of them is
  * within one of 2^20 times (cos lat cos lon, cos lat sin lon, sin lat), and multiples of 90 degrees are exact. An
  * importer's stops come by these calls, so that a stop drawn on a vertex of the zone is on the boundary.
  */
-uint32_t spg_import_number(const uint8_t *text, size_t text_len, uint32_t zone, uint32_t charset, const uint8_t *name,
-                           size_t name_len, int32_t known_x, int32_t known_y, int32_t known_z, uint8_t *sheet,
-                           size_t sheet_len);
-size_t spg_import_place(const uint8_t *text, size_t text_len, uint32_t zone, uint32_t charset, const uint8_t *name,
-                        size_t name_len, int32_t known_x, int32_t known_y, int32_t known_z, size_t sheet_len);
-uint32_t spg_point_number(int32_t longitude, int32_t latitude);
-int32_t spg_point_x(int32_t longitude, int32_t latitude);
-int32_t spg_point_y(int32_t longitude, int32_t latitude);
-int32_t spg_point_z(int32_t longitude, int32_t latitude);
+SPG_CONST uint32_t spg_point_number(int32_t longitude, int32_t latitude);
+SPG_CONST int32_t spg_point_x(int32_t longitude, int32_t latitude);
+SPG_CONST int32_t spg_point_y(int32_t longitude, int32_t latitude);
+SPG_CONST int32_t spg_point_z(int32_t longitude, int32_t latitude);
+
+/*
+ * spg_write_number, spg_write_place: a zone sheet from its parts.
+ *
+ * zone, charset           Tags 1 and 2. A charset other than 1 to 3 (SPG_UTF8 and its likes) is 23, place 0.
+ * name, name_len          Tag 3, 1 to 120 bytes; other lengths are 22, place 0.
+ * known_x, _y, _z         Tag 4.
+ * second_x, _y, _z        Tag 6. All zero: there is none, and the sheet has no such field.
+ * vertices, vertices_len  Tag 5 or 7: 12 bytes each (spg_put_point), the first one not repeated at the end. Not whole
+ *                         twelves, or under 3 or over 4,096 vertices, are 10.
+ * grid                    The grid of all these points, SPG_COARSE or SPG_FINE; any other number is 28.
+ * sheet, sheet_len        The buffer; SPG_SHEET_MOST bytes always do, and the place of 25 says how many are needed.
+ *                         spg_write_place takes its length alone.
+ * Result                  0, and as place the sheet's length; or a refusal. What is written reads back the same, and
+ *                         is never refused. With equal arguments the two belong together, and the count is always 0.
+ *
+ * spg_write_number writes, and it alone: with 0 the sheet into the first bytes of the buffer, and nothing else.
+ */
+SPG_USED uint32_t spg_write_number(uint32_t zone, uint32_t charset, const uint8_t *name, size_t name_len,
+                                   int32_t known_x, int32_t known_y, int32_t known_z, int32_t second_x,
+                                   int32_t second_y, int32_t second_z, const uint8_t *vertices, size_t vertices_len,
+                                   uint32_t grid, uint8_t *SPG_RESTRICT sheet, size_t sheet_len);
+SPG_PURE size_t spg_write_place(uint32_t zone, uint32_t charset, const uint8_t *name, size_t name_len,
+                                int32_t known_x, int32_t known_y, int32_t known_z, int32_t second_x,
+                                int32_t second_y, int32_t second_z, const uint8_t *vertices, size_t vertices_len,
+                                uint32_t grid, size_t sheet_len);
+
+/* Both at once. */
+SPG_USED static inline struct spg_answer spg_write(uint32_t zone, uint32_t charset, const uint8_t *name,
+                                                   size_t name_len, int32_t known_x, int32_t known_y, int32_t known_z,
+                                                   int32_t second_x, int32_t second_y, int32_t second_z,
+                                                   const uint8_t *vertices, size_t vertices_len, uint32_t grid,
+                                                   uint8_t *SPG_RESTRICT sheet, size_t sheet_len)
+{
+    struct spg_answer answer = {0, 0, 0};
+    answer.number = spg_write_number(zone, charset, name, name_len, known_x, known_y, known_z, second_x, second_y,
+                                     second_z, vertices, vertices_len, grid, sheet, sheet_len);
+    answer.place = spg_write_place(zone, charset, name, name_len, known_x, known_y, known_z, second_x, second_y,
+                                   second_z, vertices, vertices_len, grid, sheet_len);
+    return answer;
+}
+
+/*
+ * spg_sheet_number and its likes: the parts of a sheet. Each call checks the whole sheet, second point included, and
+ * hands out one part.
+ *
+ *     number                 0, or the sheet's refusal (20 to 24, 11 to 16, 19); then all that follows is 0
+ *     place                  with 0 the sheet's length, otherwise the place of the refusal
+ *     zone, charset          tags 1 and 2
+ *     name_place, _length    tag 3: the name is the bytes of the sheet from there on, that many; no zero ends it
+ *     known_x, _y, _z        tag 4
+ *     second_x, _y, _z       tag 6, or 0, 0, 0 if the sheet has none
+ *     grid                   SPG_COARSE or SPG_FINE, of all its points
+ *     vertices               how many there are; spg_vertices_number hands them out
+ *
+ * Nothing is written.
+ */
+SPG_PURE uint32_t spg_sheet_number(const uint8_t *sheet, size_t sheet_len);
+SPG_PURE size_t spg_sheet_place(const uint8_t *sheet, size_t sheet_len);
+SPG_PURE uint32_t spg_sheet_zone(const uint8_t *sheet, size_t sheet_len);
+SPG_PURE uint32_t spg_sheet_charset(const uint8_t *sheet, size_t sheet_len);
+SPG_PURE size_t spg_sheet_name_place(const uint8_t *sheet, size_t sheet_len);
+SPG_PURE size_t spg_sheet_name_length(const uint8_t *sheet, size_t sheet_len);
+SPG_PURE int32_t spg_sheet_known_x(const uint8_t *sheet, size_t sheet_len);
+SPG_PURE int32_t spg_sheet_known_y(const uint8_t *sheet, size_t sheet_len);
+SPG_PURE int32_t spg_sheet_known_z(const uint8_t *sheet, size_t sheet_len);
+SPG_PURE int32_t spg_sheet_second_x(const uint8_t *sheet, size_t sheet_len);
+SPG_PURE int32_t spg_sheet_second_y(const uint8_t *sheet, size_t sheet_len);
+SPG_PURE int32_t spg_sheet_second_z(const uint8_t *sheet, size_t sheet_len);
+SPG_PURE uint32_t spg_sheet_grid(const uint8_t *sheet, size_t sheet_len);
+SPG_PURE size_t spg_sheet_vertices(const uint8_t *sheet, size_t sheet_len);
+
+/*
+ * spg_vertices_number, spg_vertices_place: the vertices of a sheet, 12 bytes each, as spg_basin_number and
+ * spg_write_number take them; spg_coordinate_at reads their numbers.
+ *
+ * sheet, sheet_len        As above.
+ * vertices, vertices_len  The buffer: 12 bytes for each of spg_sheet_vertices. spg_vertices_place takes its length
+ *                         alone.
+ * Result                  0, place 0; or the sheet's refusal; or 27 if the buffer is too short, and as place how many
+ *                         bytes it needs. With equal arguments the two belong together, and the count is always 0.
+ *
+ * spg_vertices_number writes, and it alone: with 0 the vertices into the first bytes of the buffer, and nothing else.
+ */
+SPG_USED uint32_t spg_vertices_number(const uint8_t *sheet, size_t sheet_len, uint8_t *SPG_RESTRICT vertices,
+                                      size_t vertices_len);
+SPG_PURE size_t spg_vertices_place(const uint8_t *sheet, size_t sheet_len, size_t vertices_len);
+
+/*
+ * The text of spg_meaning for languages that cannot use an inline function: as many of its bytes as fit go to the front
+ * of `text`, with no zero behind them, and the rest of `text` stays as it was. The result is how many bytes it has.
+ * (share/spargolutta/numbers.tsv has the numbers, names, kinds of place and texts as a table.)
+ */
+size_t spg_meaning_text(uint32_t number, uint8_t *SPG_RESTRICT text, size_t text_len);
 
 /* A short English text for a number of the table, for logs; for any other, "unknown number". Never NULL. */
 static inline const char *spg_meaning(uint32_t number)
@@ -400,5 +654,11 @@ static inline const char *spg_meaning(uint32_t number)
 #ifdef __cplusplus
 }
 #endif
+
+#undef SPG_PURE
+#undef SPG_CONST
+#undef SPG_USED
+#undef SPG_NONNULL
+#undef SPG_RESTRICT
 
 #endif

@@ -2,6 +2,7 @@
 #ifndef CASES_H
 #define CASES_H
 
+#include <spargolutta.h>
 #include <stdbool.h>
 #include <stdint.h>
 #include <stdio.h>
@@ -22,18 +23,13 @@ static inline void require(bool holds, const char *what)
     }
 }
 
-static inline uint32_t word_at(const uint8_t *bytes)
-{
-    return (uint32_t)bytes[0] << 24 | (uint32_t)bytes[1] << 16 | (uint32_t)bytes[2] << 8 | bytes[3];
-}
-
 /* Reads a row into ROOM bytes; false at the end of the input. */
 static inline bool read_row(struct bytes *row)
 {
     uint8_t word[4];
     if (fread(word, 1, 4, stdin) == 0)
         return false;
-    row->length = word_at(word);
+    row->length = spg_number_at(word);
     require(row->length <= ROOM, "too long");
     require(fread(row->at, 1, row->length, stdin) == row->length, "case cut short");
     return true;

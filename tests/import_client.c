@@ -6,16 +6,13 @@
  *     import_client stack  reads one case and prints how many bytes of stack a thread needs for both import calls and
  *                          the four of a position.
  *
- * The rows of a case are those of cases.h. Text and name stand once right before a page that may not be touched and once
- * right behind one; the buffer too, and after a refusal the call is made again with the buffer closed for writing.
+ * The rows of a case are those of cases.h. Text and name stand once right before a page that may not be touched and
+ * once right behind one; the buffer too, and after a refusal the call is made again with the buffer closed for writing.
  */
 #include "rooms.h"
+#include "stack.h"
 
-#include <pthread.h>
 #include <spargolutta.h>
-
-#define STACK_ROOM (1 << 20)
-#define PAINT 0xa5
 
 struct import {
     struct bytes text, name, sheet;
@@ -67,7 +64,7 @@ static void import_cases(struct import *from)
         struct import first = placed(rooms, from, false);
         memcpy(sheet_of_first, first.sheet.at, first.sheet.length);
         struct import last = placed(rooms, from, true);
-        require(first.number == last.number && first.place == last.place, "the answer depends on where the bytes stand");
+        require(first.number == last.number && first.place == last.place, "the answer depends on where bytes stand");
         require(memcmp(sheet_of_first, last.sheet.at, last.sheet.length) == 0, "the sheet does");
         printf("%u %zu ", (unsigned)last.number, last.place);
         for (size_t k = 0; k < last.sheet.length; k++)
@@ -76,32 +73,16 @@ static void import_cases(struct import *from)
     }
 }
 
-/* Imports in a thread whose stack is painted first, and counts the bytes that lost their paint. */
-static void print_stack(struct import *i)
-{
-    static uint8_t stack[STACK_ROOM] __attribute__((aligned(4096)));
-    pthread_attr_t attributes;
-    pthread_t thread;
-    size_t untouched = 0;
-    require(read_import(i), "no case");
-    memset(stack, PAINT, sizeof stack);
-    require(pthread_attr_init(&attributes) == 0, "no thread attributes");
-    require(pthread_attr_setstack(&attributes, stack, sizeof stack) == 0, "stack not taken");
-    require(pthread_create(&thread, &attributes, all_calls, i) == 0, "no thread");
-    require(pthread_join(thread, NULL) == 0, "thread lost");
-    require(i->number == SPG_DONE, "the text is refused");
-    while (untouched < sizeof stack && stack[untouched] == PAINT)
-        untouched++;
-    printf("%zu\n", sizeof stack - untouched);
-}
-
 int main(int argc, char **argv)
 {
     static uint8_t text[ROOM], name[ROOM], sheet[ROOM];
     struct import from = {.text = {text, 0}, .name = {name, 0}, .sheet = {sheet, 0}};
-    if (argc == 2 && strcmp(argv[1], "stack") == 0)
-        print_stack(&from);
-    else
+    if (argc == 2 && strcmp(argv[1], "stack") == 0) {
+        require(read_import(&from), "no case");
+        printf("%zu\n", stack_needed(all_calls, &from));
+        require(from.number == SPG_DONE, "the text is refused");
+    } else {
         import_cases(&from);
+    }
     return 0;
 }

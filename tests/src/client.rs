@@ -8,6 +8,7 @@ use crate::random::Random;
 use crate::second_point::stored;
 use crate::sheet::{point_bytes, points_bytes, Grid, Sheet, GRIDS};
 use crate::{damage, library, reference, Answer, Comparison, Point, Single};
+use std::collections::BTreeMap;
 use std::process::Command;
 
 const STRICT: [&str; 4] = ["-Wall", "-Wextra", "-Werror", "-pedantic"];
@@ -29,31 +30,6 @@ pub fn compile(folder: &Folder, source: &str, words: &[&str], flags: &[String]) 
     cc.arg("-std=c11").args(words).arg("-o").arg(&program).arg(repository(source)).args(flags);
     output_of(&mut cc, &[]);
     Command::new(program)
-}
-
-/// The header gives each number of the table a meaning of its own, and C++ takes it too. (A machine
-/// may have no C++ compiler: then this says so.)
-#[test]
-fn header() {
-    let folder = Folder::new("header");
-    let source = "#include <spargolutta.h>\n#include <stdio.h>\n\
-                  int main(void) { for (unsigned n = 0; n < 40; n++) puts(spg_meaning(n)); }\n";
-    let program = folder.path("header");
-    for (compiler, name) in [("cc", "header.c"), ("c++", "header.cc")] {
-        if Command::new(compiler).arg("--version").output().is_err() {
-            println!("header: no {compiler} here");
-            continue;
-        }
-        let file = folder.write(name, source.as_bytes());
-        output_of(command(compiler, STRICT).arg("-o").arg(&program).arg(file).args(flags()), &[]);
-        let printed = output_of(&mut Command::new(&program), &[]);
-        let meanings: Vec<&str> = printed.lines().collect();
-        for (n, meaning) in meanings.iter().enumerate() {
-            let listed = matches!(n, 0..=3 | 10..=28 | 30..=36);
-            assert_eq!(*meaning != "unknown number", listed, "{n}");
-            assert!(!listed || meanings.iter().filter(|other| *other == meaning).count() == 1, "{n}");
-        }
-    }
 }
 
 /// Bytes as the client reads them, with their length before them.
@@ -209,27 +185,32 @@ fn feed_place_is_not_cut() {
     assert_eq!(output_of(client.arg("long"), &[]), "27 4294967316 0 0 0\n");
 }
 
-/// The header promises that a call needs less than 64 KiB of stack: measured inside, on the boundary, and
-/// from a second point; on the fine grid with turns that floats leave to exact work, and with numbers so
-/// large that floats decide.
+/// The header promises that a call needs less than 64 KiB of stack: measured for each topic, inside, on the
+/// boundary, and from a second point; on the fine grid with turns that floats leave to exact work, and with
+/// numbers so large that floats decide.
 #[test]
 fn stack() {
     let folder = Folder::new("stack");
-    let mut client = compile(&folder, "tests/client.c", &["-D_GNU_SOURCE", "-O1"], &flags());
-    client.arg("stack");
+    let mut client = compile(&folder, "tests/stack_client.c", &["-D_GNU_SOURCE", "-O1"], &flags());
     let vertices: Vec<Point> = (0..4096).map(|i| [(i % 2) * 7, 1, i + 1]).collect();
     let plain = Sheet::new([500, 1, 3], &vertices);
     let pair = plain.clone().with_second([501, 1, 3]);
     let cases = [(&plain, 1, [3, 2, 1]), (&plain, 3, vertices[4095]), (&pair, 1, [-500, -1, -3])];
+    let mut most = BTreeMap::new();
     for (grid, factor) in [(Grid::Coarse, 1), (Grid::Fine, 1), (Grid::Fine, 16_000)] {
         for (sheet, number, query) in cases {
             let (sheet, query) = (sheet.times(factor).on(grid).bytes(), query.map(|k| factor * k));
             let queries = points_bytes(&[query; 100]);
             assert_eq!(reference::judge(&sheet, query).number, number);
             let case = [&sheet, &queries, &vec![0; queries.len()]].map(|bytes| row(bytes)).concat();
-            let needed: usize = output_of(&mut client, &case).trim().parse().expect("bytes");
-            println!("stack, {grid:?}: {needed} bytes, those of starting a thread among them");
-            assert!(needed <= 60_000, "more than the room kept free below the promise");
+            for line in output_of(&mut client, &case).lines() {
+                let (needed, topic) = line.split_once(' ').expect("two words");
+                let entry = most.entry(topic.to_string()).or_insert(0);
+                *entry = needed.parse::<usize>().expect("bytes").max(*entry);
+            }
         }
     }
+    let topics: Vec<String> = most.iter().map(|(topic, needed)| format!("{topic} {needed}")).collect();
+    println!("stack, bytes, those of starting a thread among them: {}", topics.join("; "));
+    assert!(most.len() == 11 && most.values().all(|needed| *needed <= 60_000), "the promise, and some room");
 }

@@ -29,6 +29,8 @@ mod damage;
 #[cfg(test)]
 mod differences;
 #[cfg(test)]
+mod example;
+#[cfg(test)]
 mod feed;
 #[cfg(test)]
 mod fractions;
@@ -36,6 +38,8 @@ mod fractions;
 mod geojson;
 #[cfg(test)]
 mod grids;
+#[cfg(test)]
+mod header;
 #[cfg(test)]
 mod importer;
 #[cfg(test)]

@@ -1,33 +1,20 @@
-//! The example that looks stops up in a book, as a user gets it: the library installed, the example compiled with what
-//! pkg-config says of it, and run.
+//! The example that looks stops up in a book.
 
-use crate::client::compile;
-use crate::host::{command, run_in_pieces, Folder};
-use crate::importer::install;
+use crate::example::Example;
 use crate::sheet::{octant, octant_pair, Grid, Sheet};
-use std::process::Command;
 
-struct Example {
-    program: Command,
-    folder: Folder,
-}
+struct Lookup(Example);
 
-impl Example {
-    fn new(folder: &str) -> Example {
-        let folder = Folder::new(folder);
-        let flags = install(&folder);
-        Example { program: compile(&folder, "examples/which_harbour.c", &[], &flags), folder }
+impl Lookup {
+    fn new(folder: &str) -> Lookup {
+        Lookup(Example::new(folder, "examples/which_harbour.c"))
     }
 
     /// Runs it on the book, a grid and the stops: its exit status and what it has to print.
     fn look_up(&self, book: &[u8], grid: &str, stops: &str, status: i32, stdout: &str, stderr: &str) {
-        self.folder.write("book", book);
-        self.folder.write("stops", stops.as_bytes());
-        let mut run = command(self.program.get_program(), ["book", grid, "stops"]);
-        let output = run_in_pieces(run.current_dir(self.folder.path("")), &[], 1);
-        assert_eq!(String::from_utf8_lossy(&output.stdout), stdout);
-        assert_eq!(String::from_utf8_lossy(&output.stderr), stderr);
-        assert_eq!(output.status.code(), Some(status));
+        self.0.folder.write("book", book);
+        self.0.folder.write("stops", stops.as_bytes());
+        self.0.run(&["book", grid, "stops"], status, stdout, stderr);
     }
 }
 
@@ -39,7 +26,7 @@ fn zone(number: u32, sheet: Sheet) -> Vec<u8> {
 /// y negated as 73. The expected lines follow document 01's K2, K3, K5 and K8.
 #[test]
 fn which_harbour() {
-    let example = Example::new("which-harbour");
+    let example = Lookup::new("which-harbour");
     let far = Sheet::new([-1, -1, 1], &[[-1, 0, 0], [0, -1, 0], [0, 0, 1]]);
     let sheets = [(70, octant()), (71, octant().on(Grid::Fine)), (72, octant_pair()), (73, far)];
     let book = sheets.map(|(number, sheet)| zone(number, sheet)).concat();
@@ -58,15 +45,15 @@ fn which_harbour() {
 /// A harbour that is refused (16, as K9) is left out; a book that is refused ends it.
 #[test]
 fn which_harbour_refused() {
-    let example = Example::new("which-harbour-refused");
+    let example = Lookup::new("which-harbour-refused");
     let on_circle = Sheet { known: [1, -1, 0], ..octant() };
     let book = [zone(8, on_circle), zone(9, octant())].concat();
     let refused = "refused: harbour, zone 8: known point on the great circle of a side (16)\n";
     example.look_up(&book, "0", "3 2 1 Lighthouse\n", 1, "Lighthouse: inside 9\n", refused);
-    let cut = "refused: book: sheet cut short (20), place 99\n";
+    let cut = "refused: book: sheet cut short (20), byte 99\n";
     example.look_up(&book[..137], "0", "3 2 1 Lighthouse\n", 1, "", cut);
     let long = octant().bytes().repeat(65);
-    example.look_up(&long, "0", "", 1, "", "refused: book: bytes left after 64 sheets (36), place 4416\n");
+    example.look_up(&long, "0", "", 1, "", "refused: book: bytes left after 64 sheets (36), byte 4416\n");
     // More stops than one feed takes.
     let stops: String = (0..9_000).map(|k| format!("3 2 1 Stop {k}\n")).collect();
     let found: String = (0..9_000).map(|k| format!("Stop {k}: inside 9\n")).collect();
