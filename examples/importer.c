@@ -36,7 +36,7 @@ static bool write_second(const uint8_t *second, const char *store)
         spg_sheet_zone(sheet, sheet_len), spg_sheet_charset(sheet, sheet_len),
         sheet + spg_sheet_name_place(sheet, sheet_len), spg_sheet_name_length(sheet, sheet_len),
         spg_sheet_known_x(sheet, sheet_len), spg_sheet_known_y(sheet, sheet_len), spg_sheet_known_z(sheet, sheet_len),
-        spg_coordinate_at(second), spg_coordinate_at(second + 4), spg_coordinate_at(second + 8), vertices,
+        spg_coordinate_at(second, 0), spg_coordinate_at(second, 1), spg_coordinate_at(second, 2), vertices,
         SPG_POINT_SIZE * spg_sheet_vertices(sheet, sheet_len), spg_sheet_grid(sheet, sheet_len), written,
         sizeof written);
     if (answer.number != SPG_DONE)
@@ -70,8 +70,8 @@ static bool print_stop(size_t i, const char *store)
         return false;
     }
     if (answer.number == SPG_QUERY_OPPOSITE && (has_second || (store != NULL && add_second(store))))
-        answer = spg_judge(sheet, sheet_len, spg_coordinate_at(query), spg_coordinate_at(query + 4),
-                           spg_coordinate_at(query + 8));
+        answer = spg_judge(sheet, sheet_len, spg_coordinate_at(query, 0), spg_coordinate_at(query, 1),
+                           spg_coordinate_at(query, 2));
     if (SPG_IS_REFUSAL(answer.number))
         print_refusal(feed.names[i], answer.number, answer.place);
     else if (answer.number == SPG_BOUNDARY)

@@ -226,10 +226,10 @@ SPG_NONNULL SPG_PURE static inline uint32_t spg_number_at(const uint8_t *from)
     return (uint32_t)from[0] << 24 | (uint32_t)from[1] << 16 | (uint32_t)from[2] << 8 | from[3];
 }
 
-/* One of a point's three numbers, which are signed: x at 0, y at 4, z at 8. */
-SPG_NONNULL SPG_PURE static inline int32_t spg_coordinate_at(const uint8_t *from)
+/* Number i of points one after the other: x, y and z of the first are 0, 1 and 2, x of point k is 3 * k. */
+SPG_NONNULL SPG_PURE static inline int32_t spg_coordinate_at(const uint8_t *points, size_t i)
 {
-    uint32_t number = spg_number_at(from);
+    uint32_t number = spg_number_at(points + 4 * i);
     return number <= INT32_MAX ? (int32_t)number : -(int32_t)(UINT32_MAX - number) - 1;
 }
 

@@ -1,6 +1,6 @@
 /*
- * Makes share/spargolutta/numbers.tsv (`make numbers`): a line for each number with its name, what its place is, and its
- * text, parted by tabs. The names come from the header, on standard input, and the rest from the library.
+ * Makes share/spargolutta/numbers.tsv (`make numbers`): a line for each number with its name, what its place is, and
+ * its text, parted by tabs. The names come from the header, on standard input, and the rest from the library.
  */
 #include <spargolutta.h>
 #include <stdbool.h>

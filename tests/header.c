@@ -60,7 +60,7 @@ static void print_helpers(void)
     for (int k = 0; k < 6; k++) {
         spg_put_point(bytes, numbers[k], -1, numbers[5 - k]);
         print_bytes("point", bytes, sizeof bytes);
-        print_point("numbers", spg_coordinate_at(bytes), spg_coordinate_at(bytes + 4), spg_coordinate_at(bytes + 8));
+        print_point("numbers", spg_coordinate_at(bytes, 0), spg_coordinate_at(bytes, 1), spg_coordinate_at(bytes, 2));
         spg_put_number(bytes, spg_number_at(bytes + 8));
         print("number", spg_number_at(bytes), 0, 0);
     }

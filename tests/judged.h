@@ -21,7 +21,7 @@ static inline void judge(struct judged *j)
     struct bytes s = j->sheet;
     const uint8_t *q = j->queries.at;
     require(j->queries.length >= SPG_POINT_SIZE, "no query");
-    int32_t x = spg_coordinate_at(q), y = spg_coordinate_at(q + 4), z = spg_coordinate_at(q + 8);
+    int32_t x = spg_coordinate_at(q, 0), y = spg_coordinate_at(q, 1), z = spg_coordinate_at(q, 2);
     j->number = spg_judge_number(s.at, s.length, x, y, z);
     j->place = spg_judge_place(s.at, s.length, x, y, z);
     j->count = spg_judge_count(s.at, s.length, x, y, z);
@@ -41,7 +41,7 @@ static inline void choose(struct judged *j)
 static inline void ask_book(struct judged *j, uint32_t grid, const uint8_t *q)
 {
     struct bytes b = j->sheet;
-    int32_t x = spg_coordinate_at(q), y = spg_coordinate_at(q + 4), z = spg_coordinate_at(q + 8);
+    int32_t x = spg_coordinate_at(q, 0), y = spg_coordinate_at(q, 1), z = spg_coordinate_at(q, 2);
     j->number = spg_book_number(b.at, b.length, grid, x, y, z);
     j->place = spg_book_place(b.at, b.length, grid, x, y, z);
     j->count = spg_book_count(b.at, b.length, grid, x, y, z);

@@ -70,8 +70,8 @@ static void write_parts(struct judged *j)
 /* The feed of one query among them. */
 static void feed_both(struct judged *j)
 {
-    struct spg_answer one = spg_judge(j->sheet.at, j->sheet.length, spg_coordinate_at(j->queries.at),
-                                      spg_coordinate_at(j->queries.at + 4), spg_coordinate_at(j->queries.at + 8));
+    struct spg_answer one = spg_judge(j->sheet.at, j->sheet.length, spg_coordinate_at(j->queries.at, 0),
+                                      spg_coordinate_at(j->queries.at, 1), spg_coordinate_at(j->queries.at, 2));
     feed(j);
     require(j->number == SPG_DONE, "the feed is refused");
     require(one.number == spg_result_at(j->results.at, 0).number, "two answers");

@@ -1,4 +1,4 @@
-//! The header in use: each of its declarations, as C99 and as C++, under each compiler at hand; and the table of numbers.
+//! The header in use: each of its declarations, as C99 and as C++, under each compiler at hand; the table of numbers.
 
 use crate::client::flags;
 use crate::host::{command, output_of, repository, Folder};
@@ -21,8 +21,8 @@ fn compiled(folder: &Folder, compiler: &str, words: &[&str]) -> Option<Command> 
     Some(Command::new(program))
 }
 
-/// What each call says of document 01's octant; what it says of NULL and 0; each number's kind and text, which the inline
-/// function and the exported one have to agree on.
+/// What each call says of document 01's octant; what it says of NULL and 0; each number's kind and text, which the
+/// inline function and the exported one have to agree on.
 #[test]
 fn header_in_use() {
     let folder = Folder::new("header");
@@ -43,6 +43,34 @@ fn header_in_use() {
         let texts: BTreeSet<&str> =
             told.lines().map(|line| line.rsplit_once('\t').expect("text").1).collect();
         assert_eq!(texts.len(), meanings.len(), "two numbers with one text");
+    }
+}
+
+/// The compiler is told what a call must not be given and that its answer is to be looked at. The buffers a and b stand
+/// apart; NULL is an error where there are always bytes.
+#[test]
+fn header_attributes() {
+    let folder = Folder::new("attributes");
+    let gcc = |line: &str| {
+        let source = format!(
+            "#include <spargolutta.h>\nextern uint8_t a[99], b[12];\nvoid f(void);\nvoid f(void) {{ {line} }}\n"
+        );
+        let file = folder.write("line.c", source.as_bytes());
+        let mut cc =
+            command("gcc", ["-std=c99", "-Wall", "-Wextra", "-Werror", "-O1", "-c", "-o", "/dev/null"]);
+        cc.args(flags()).arg(file).output().expect("gcc").status.success()
+    };
+    assert!(gcc("if (spg_feed_number(a, 99, a, 12, b, 12)) spg_put_point(b, 1, 1, 1);"));
+    for line in [
+        "if (spg_feed_number(a, 99, a + 84, 12, a + 84, 12)) spg_put_point(b, 1, 1, 1);",
+        "spg_feed_number(a, 99, a, 12, b, 12);",
+        "spg_judge_number(a, 99, 1, 1, 1);",
+        "spg_judge(a, 99, 1, 1, 1);",
+        "spg_point_x(0, 0);",
+        "spg_put_point(NULL, 1, 1, 1);",
+        "if (spg_result_at(NULL, 0).number) spg_put_point(b, 1, 1, 1);",
+    ] {
+        assert!(!gcc(line), "{line}");
     }
 }
 
