@@ -640,13 +640,13 @@ static inline const char *spg_meaning(uint32_t number)
     case SPG_QUERIES_CUT: return "queries not whole twelves";
     case SPG_RESULTS_SHORT: return "result buffer too short";
     case SPG_BAD_GRID: return "grid mixed or unknown";
-    case SPG_TOO_MANY_SIDES: return "over 512 vertices";
-    case SPG_SIDES_SHARE: return "two sides share a point";
-    case SPG_BOOK_LONG: return "bytes left after 64 sheets";
     case SPG_NOT_A_TEXT: return "not one GeoJSON Polygon of the kind that is read";
     case SPG_POSITION_OUTSIDE: return "latitude past 90 or longitude past 180 degrees";
     case SPG_RING_OPEN: return "ring not closed or under four positions";
     case SPG_POSITIONS_FAR: return "neighbours more than one degree apart";
+    case SPG_TOO_MANY_SIDES: return "over 512 vertices";
+    case SPG_SIDES_SHARE: return "two sides share a point";
+    case SPG_BOOK_LONG: return "bytes left after 64 sheets";
     default: return "unknown number";
     }
 }
