@@ -111,8 +111,8 @@ fn basin_refusals() {
     }
 }
 
-/// Every outline of 3 and 4 vertices with numbers from -1 to 1, all zero among them; and of 5 that begin with one of
-/// three directions, as the others are these turned.
+/// Every outline of 3 and 4 vertices with numbers from -1 to 1, all zero among them; of 5 that begin with one of three
+/// directions, as the others are these turned; and every one of 5 flat vertices, those with a 0, wherever it begins.
 #[test]
 fn basin_small_grid() {
     let all: Vec<Point> = (0..27).map(|k| [k % 3 - 1, k / 3 % 3 - 1, k / 9 - 1]).collect();
@@ -131,7 +131,9 @@ fn basin_small_grid() {
     walk(&all, &all, 4);
     let some: Vec<Point> = all.into_iter().filter(|&p| p != [0; 3]).collect();
     walk(&[[1, 0, 0], [1, 1, 0], [1, 1, 1]], &some, 5);
-    tally.report("basin, small grid", 1_900_000, [0, 12, 13, 14, 35]);
+    let flat: Vec<Point> = some.into_iter().filter(|p| p.contains(&0)).collect();
+    walk(&flat, &flat, 5);
+    tally.report("basin, small grid", 3_800_000, [0, 12, 13, 14, 35]);
 }
 
 /// Rings with many coincidences, and with numbers of any size.
