@@ -1,5 +1,6 @@
 //! Whole numbers of any size, and the first ten terms of the sine and the cosine as exact fractions (document 02, P7).
 
+use crate::Point;
 use std::cmp::Ordering;
 use std::ops::Mul;
 
@@ -119,16 +120,22 @@ pub struct Angles {
     cosine: Series,
     sine: Series,
     turn: Whole,
-    pub cosine_denominator: Whole,
-    pub sine_denominator: Whole,
+    sine_denominator: Whole,
+    /// Of the products for x, y and z.
+    denominators: [Whole; 3],
 }
 
 impl Angles {
     pub fn new() -> Angles {
         let (cosine, sine) = (Series::new(0), Series::new(1));
-        let cosine_denominator = cosine.denominator.clone();
+        let cosine_denominator = &cosine.denominator;
         let sine_denominator = &sine.denominator * &full();
-        Angles { cosine, sine, turn: turn(), cosine_denominator, sine_denominator }
+        let denominators = [
+            cosine_denominator * cosine_denominator,
+            &sine_denominator * cosine_denominator,
+            sine_denominator.clone(),
+        ];
+        Angles { cosine, sine, turn: turn(), sine_denominator, denominators }
     }
 
     /// The numerators of sine and cosine, from 0 to 90 degrees.
@@ -140,6 +147,22 @@ impl Angles {
         let square = &x * &x;
         (&x * &self.sine.at(&square), self.cosine.at(&square))
     }
+
+    /// Document 02's bound, for a position in range: each grid number within one of 2^20 times the product of the
+    /// fractions, on the grid, and of its sign.
+    pub fn within_bound(&self, [longitude, latitude]: [i32; 2], numbers: Point) -> bool {
+        let east = longitude.unsigned_abs();
+        let turned = if east > 900_000_000 { 1_800_000_000 - east } else { east };
+        let (sin_lon, cos_lon) = self.sin_cos(turned);
+        let (sin_lat, cos_lat) = self.sin_cos(latitude.unsigned_abs());
+        let products = [&cos_lat * &cos_lon, &cos_lat * &sin_lon, sin_lat];
+        let negative = [east > 900_000_000, longitude < 0, latitude < 0];
+        (0..3).all(|k| {
+            let (size, denominator) = (numbers[k].unsigned_abs(), &self.denominators[k]);
+            let apart = (denominator * &Whole::from(size.into())).apart(&products[k] * &Whole::from(1 << 20));
+            apart.at_most(denominator) && size <= 1 << 20 && (size == 0 || (numbers[k] < 0) == negative[k])
+        })
+    }
 }
 
 /// At 60 degrees the cosine is within 10^-14 of a half, and the sine's square within that of three quarters.
@@ -149,7 +172,7 @@ fn fractions_at_60_degrees() {
     let (sine, cosine) = angles.sin_cos(600_000_000);
     let most = Whole::from(100_000_000_000_000);
     let near = |a: Whole, b: Whole, denominator: &Whole| (&a.apart(b) * &most).at_most(denominator);
-    assert!(near(&cosine * &Whole::from(2), angles.cosine_denominator.clone(), &angles.cosine_denominator));
+    assert!(near(&cosine * &Whole::from(2), angles.cosine.denominator.clone(), &angles.cosine.denominator));
     let square = &angles.sine_denominator * &angles.sine_denominator;
     assert!(near(&(&sine * &sine) * &Whole::from(4), &square * &Whole::from(3), &square));
 }

@@ -2,7 +2,7 @@
 //! them.
 
 use crate::compare::Tally;
-use crate::fractions::{Angles, Whole};
+use crate::fractions::Angles;
 use crate::imports::{circle, given, import_number, import_place, point, point_number, text, Given};
 use crate::random::Random;
 use crate::{reference, Answer};
@@ -152,33 +152,18 @@ fn geojson_random() {
         let mut given = given();
         given.known = if random.once_in(8) { random.point(2) } else { random.point(1_100_000) };
         given.charset = random.pick(&[1, 2, 3, 1, 2, 3, 1, 2, 3, 0, 4, 259]);
-        given.name = vec![b'n'; random.pick(&[1, 5, 120, 1, 5, 120, 0, 121])];
+        given.name = &[b'n'; 121][..random.pick(&[1, 5, 120, 1, 5, 120, 0, 121])];
         let room = random.pick(&[60_000, 60_000, 60_000, 180, 0]);
         tally.count(compare(text(&ring).as_bytes(), &given, room).number);
     }
     tally.report("GeoJSON rings", 40_000, [0, 13, 15, 16, 22, 23, 25, 31, 32, 33]);
 }
 
-/// Document 02's bound: each grid number within one of 2^20 times the product of the ten-term fractions, on the grid,
-/// and of its sign.
-fn within_bound(angles: &Angles, denominators: &[Whole; 3], [longitude, latitude]: [i32; 2]) {
-    let east = longitude.unsigned_abs();
-    let turned = if east > 900_000_000 { 1_800_000_000 - east } else { east };
-    let (sin_lon, cos_lon) = angles.sin_cos(turned);
-    let (sin_lat, cos_lat) = angles.sin_cos(latitude.unsigned_abs());
-    let products = [&cos_lat * &cos_lon, &cos_lat * &sin_lon, sin_lat];
-    let negative = [east > 900_000_000, longitude < 0, latitude < 0];
+fn within_bound(angles: &Angles, position: [i32; 2]) {
+    let [longitude, latitude] = position;
     let numbers = point(longitude, latitude);
     assert_eq!(point_number(longitude, latitude), 0);
-    for (k, product) in products.iter().enumerate() {
-        let size = numbers[k].unsigned_abs();
-        let apart = (&denominators[k] * &Whole::from(size.into())).apart(product * &Whole::from(1 << 20));
-        assert!(apart.at_most(&denominators[k]), "{longitude}, {latitude}: {numbers:?}");
-        assert!(
-            size <= 1 << 20 && (size == 0 || (numbers[k] < 0) == negative[k]),
-            "{longitude}, {latitude}: {numbers:?}"
-        );
-    }
+    assert!(angles.within_bound(position, numbers), "{longitude}, {latitude}: {numbers:?}");
 }
 
 /// A million positions: every multiple of 90 degrees and its neighbours, and others of every kind.
@@ -186,18 +171,16 @@ fn within_bound(angles: &Angles, denominators: &[Whole; 3], [longitude, latitude
 fn geojson_grid_numbers() {
     const WORKERS: u64 = 2;
     let angles = Angles::new();
-    let (cosine, sine) = (&angles.cosine_denominator, &angles.sine_denominator);
-    let denominators = [cosine * cosine, sine * cosine, sine.clone()];
     let near = |limit: i32, quarters: i32| {
         let around = move |k: i32| (-8..=8).map(move |step| k * 90 * DEGREE + step);
         (-quarters..=quarters).flat_map(around).filter(move |k| k.abs() <= limit)
     };
     for longitude in near(180 * DEGREE, 2) {
-        near(90 * DEGREE, 1).for_each(|latitude| within_bound(&angles, &denominators, [longitude, latitude]));
+        near(90 * DEGREE, 1).for_each(|latitude| within_bound(&angles, [longitude, latitude]));
     }
     thread::scope(|scope| {
         for seed in 0..WORKERS {
-            let (angles, denominators) = (&angles, &denominators);
+            let angles = &angles;
             scope.spawn(move || {
                 let mut random = Random::new(seed);
                 let mut number = move |limit: i32, quarters: i32| match random.below(4) {
@@ -206,8 +189,7 @@ fn geojson_grid_numbers() {
                     _ => random.between(-limit, limit),
                 };
                 for _ in 0..1_000_000 / WORKERS {
-                    let position = [number(180 * DEGREE, 2), number(90 * DEGREE, 1)];
-                    within_bound(angles, denominators, position);
+                    within_bound(angles, [number(180 * DEGREE, 2), number(90 * DEGREE, 1)]);
                 }
             });
         }

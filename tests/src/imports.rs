@@ -36,16 +36,16 @@ extern "C" {
 
 /// What a caller hands over beside the text.
 #[derive(Clone, Debug)]
-pub struct Given {
+pub struct Given<'a> {
     pub zone: u32,
     pub charset: u32,
-    pub name: Vec<u8>,
+    pub name: &'a [u8],
     pub known: Point,
 }
 
 /// Imports and writes.
 pub fn import_number(text: &[u8], given: &Given, sheet: &mut [u8]) -> u32 {
-    let (&Given { zone, charset, known: [x, y, z], .. }, name) = (given, &given.name);
+    let &Given { zone, charset, name, known: [x, y, z] } = given;
     let (out, room) = (sheet.as_mut_ptr(), sheet.len());
     let (at, length) = (text.as_ptr(), text.len());
     unsafe { spg_import_number(at, length, zone, charset, name.as_ptr(), name.len(), x, y, z, out, room) }
@@ -53,7 +53,7 @@ pub fn import_number(text: &[u8], given: &Given, sheet: &mut [u8]) -> u32 {
 
 /// The place for a buffer of `room` bytes; nothing is written.
 pub fn import_place(text: &[u8], given: &Given, room: usize) -> usize {
-    let (&Given { zone, charset, known: [x, y, z], .. }, name) = (given, &given.name);
+    let &Given { zone, charset, name, known: [x, y, z] } = given;
     let (at, length) = (text.as_ptr(), text.len());
     unsafe { spg_import_place(at, length, zone, charset, name.as_ptr(), name.len(), x, y, z, room) }
 }
@@ -67,8 +67,8 @@ pub fn point(longitude: i32, latitude: i32) -> Point {
 }
 
 /// Zone 7, UTF-8, name "A". The known point is far off, on no great circle of a small ring's sides.
-pub fn given() -> Given {
-    Given { zone: 7, charset: 1, name: b"A".to_vec(), known: [-314_159, 271_828, 577_215] }
+pub fn given() -> Given<'static> {
+    Given { zone: 7, charset: 1, name: b"A", known: [-314_159, 271_828, 577_215] }
 }
 
 /// A ring of these positions, in ten-millionths of a degree.

@@ -2,13 +2,18 @@
 //! 01 and 02.
 //!
 //! `reference` is that reading, `library` and `imports` the calls under test. `random`, `sheet`, `islands` and
-//! `stars` make the inputs, `host` runs programs; the benchmark uses these too. `outlines` and `turns` make inputs
-//! for tests alone: coincidences, and turns that floats get wrong. The other modules are the tests.
+//! `stars` make the inputs, `host` runs programs; the benchmark uses these too. `calls` has the calls as a table, on
+//! the guarded pages of `guard`, and the fuzzer uses these. `outlines` and `turns` make inputs: coincidences, and turns
+//! that floats get wrong. The other modules are the tests.
 
+pub mod calls;
+pub mod fractions;
+pub mod guard;
 pub mod host;
 pub mod imports;
 pub mod islands;
 pub mod library;
+pub mod outlines;
 pub mod random;
 pub mod reference;
 pub mod sheet;
@@ -33,8 +38,6 @@ mod example;
 #[cfg(test)]
 mod feed;
 #[cfg(test)]
-mod fractions;
-#[cfg(test)]
 mod geojson;
 #[cfg(test)]
 mod grids;
@@ -48,8 +51,6 @@ mod known_point;
 mod looked;
 #[cfg(test)]
 mod multiplications;
-#[cfg(test)]
-mod outlines;
 #[cfg(test)]
 mod program;
 #[cfg(test)]

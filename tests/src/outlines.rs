@@ -4,6 +4,7 @@ use crate::random::Random;
 use crate::sheet::{points_bytes, Grid, Sheet};
 use crate::{reference, Point};
 
+#[cfg(test)]
 mod tests;
 
 /// The grid of a family of outlines, and where it takes its coordinates from.

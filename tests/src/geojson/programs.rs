@@ -27,7 +27,7 @@ fn geojson_guard_pages() {
     assert_eq!(printed.lines().count(), cases.len());
     for (line, (text, name, room)) in printed.lines().zip(&cases) {
         let mut given = given();
-        given.name.clone_from(name);
+        given.name = name;
         let (answer, sheet) = reference::import(text, &given, *room, point);
         let after: Vec<u8> = sheet.iter().copied().chain(vec![0xc3; *room]).take(*room).collect();
         let hex: String = after.iter().map(|byte| format!("{byte:02x}")).collect();

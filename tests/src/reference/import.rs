@@ -177,8 +177,8 @@ pub fn import(text: &[u8], given: &Given, room: usize, point: fn(i32, i32) -> Po
     let vertices = ring[1..].iter().map(|p| point(p[0] as i32, p[1] as i32)).collect::<Vec<_>>();
     // The last position is the first: it is dropped.
     let vertices = [&vertices[vertices.len() - 1..], &vertices[..vertices.len() - 1]].concat();
-    let &Given { zone, charset, ref name, known } = given;
-    let (charset, name) = (charset as u8, name.clone());
+    let &Given { zone, charset, name, known } = given;
+    let (charset, name) = (charset as u8, name.to_vec());
     let sheet = Sheet { grid: Grid::Coarse, zone, charset, name, known, vertices, second: None }.bytes();
     match outline(&sheet) {
         Err(refusal) => refused(refusal),
