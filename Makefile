@@ -5,11 +5,12 @@
 # make install    header, archive and pkg-config file under PREFIX (no spaces in it)
 # make host-test  the host tests alone
 # make bench      the library and the program against Rust and C, as ratios of times and instructions
+# make fuzz       libFuzzer over all calls against the host tests' second implementation, for SECONDS=60 seconds
 # make numbers    share/spargolutta/numbers.tsv, the table of numbers for other languages
 # make fmt        the layout that the gate asks for
 SHELL := /bin/bash
 .SHELLFLAGS := -o pipefail -ec
-.PHONY: run test lib bin install host-test bench numbers fmt
+.PHONY: run test lib bin install host-test bench fuzz numbers fmt
 
 PREFIX ?= /usr/local
 DESTDIR ?=
@@ -55,6 +56,20 @@ host-test: lib bin
 
 bench: lib bin
 	@$(CARGO) run --release --offline --quiet --manifest-path bench/Cargo.toml
+
+# Coverage is that of the second implementation, which takes the same turns: the archive is linked as users get it.
+# What was found is kept in target/fuzz for the next run; an input that ends the program is left there too.
+SECONDS ?= 60
+HOST = $(shell rustc -vV | sed -n 's/^host: //p')
+COVERAGE := -Cpasses=sancov-module $(addprefix -Cllvm-args=-sanitizer-coverage-,level=4 inline-8bit-counters pc-table \
+	trace-compares)
+fuzz: lib
+	@mkdir -p target/fuzz/seeds target/fuzz/corpus
+	@RUSTFLAGS='$(COVERAGE)' $(CARGO) build --release --offline --quiet --target $(HOST) --manifest-path fuzz/Cargo.toml
+	@clang -fsanitize=fuzzer target/cargo/$(HOST)/release/libspargolutta_fuzz.a -o target/fuzz/fuzz
+	@SEEDS=target/fuzz/seeds target/fuzz/fuzz -max_total_time=$(SECONDS) -max_len=8192 -verbosity=0 \
+	-dict=fuzz/tokens.dict -artifact_prefix=target/fuzz/ target/fuzz/corpus target/fuzz/seeds 2>&1 \
+	| sed -u '/^###### Recommended/,/^###### End/d'
 
 # The host tests compare it with the header and the library.
 numbers: lib

@@ -1,12 +1,15 @@
 //! The exported calls as a table: what the library and what the reference say of the same case. The guard pages' tests
 //! and the fuzzer go through it, so that a call that is added here is in both.
 
+mod rooms;
+mod told;
+
 use crate::fractions::Angles;
-use crate::guard::{Edge, Room};
 use crate::imports::{self, Given};
-use crate::{library, reference, Answer, Comparison, Point, Single, Which};
-use std::fmt::Debug;
+use crate::{library, reference, Answer, Point};
+pub use rooms::Rooms;
 use std::sync::OnceLock;
+use told::{Numbered, Told};
 
 /// What is handed to a call. Each takes what it needs: the first bytes are a sheet, a book, vertices or a text, the
 /// second ones queries, candidates, another sheet or a name.
@@ -45,10 +48,6 @@ impl Lent<'_> {
     }
 }
 
-/// An answer: its number, and all of it in words.
-#[derive(Debug, PartialEq, Eq)]
-struct Told(u32, String);
-
 /// Gives the answer and leaves the buffer as the call does.
 type Ask = fn(&Lent, &mut [u8]) -> Told;
 
@@ -56,48 +55,6 @@ pub struct Call {
     pub name: &'static str,
     library: Ask,
     reference: Ask,
-}
-
-trait Numbered: Debug {
-    fn number(&self) -> u32;
-
-    fn told(self) -> Told
-    where
-        Self: Sized,
-    {
-        Told(self.number(), format!("{self:?}"))
-    }
-}
-
-impl Numbered for Answer {
-    fn number(&self) -> u32 {
-        self.number
-    }
-}
-
-impl Numbered for Single {
-    fn number(&self) -> u32 {
-        self.answer.number
-    }
-}
-
-impl Numbered for Which {
-    fn number(&self) -> u32 {
-        self.answer.number
-    }
-}
-
-impl Numbered for Comparison {
-    fn number(&self) -> u32 {
-        self.number
-    }
-}
-
-/// A position's number, and its grid numbers unless they are past their bound.
-impl Numbered for (u32, Option<Point>) {
-    fn number(&self) -> u32 {
-        self.0
-    }
 }
 
 /// A call without a buffer, which has the same name and arguments in the library and in the reference.
@@ -169,43 +126,4 @@ fn point_by_reference(lent: &Lent, _: &mut [u8]) -> Told {
     let numbers = imports::point(longitude, latitude);
     let near = ANGLES.get_or_init(Angles::new).within_bound([longitude, latitude], numbers);
     (0, near.then_some(numbers)).told()
-}
-
-/// Rooms for the bytes of a case.
-pub struct Rooms {
-    first: Room,
-    second: Room,
-    buffer: Room,
-}
-
-impl Rooms {
-    #[allow(clippy::new_without_default)]
-    pub fn new() -> Rooms {
-        Rooms { first: Room::new(), second: Room::new(), buffer: Room::new() }
-    }
-
-    /// Asks the library, with all bytes at this edge of their rooms, and the reference. What is read is closed for
-    /// writing, and so is a buffer in which nothing is to change. The answer's number, or what was asked and both
-    /// answers.
-    pub fn compare(&mut self, call: &Call, case: &Case, edge: Edge) -> Result<u32, String> {
-        let Case { first, second, buffer, words } = case;
-        let mut expected = buffer.clone();
-        let answer = (call.reference)(&Lent { first, second, words: *words }, &mut expected);
-        let lent = Lent {
-            first: self.first.lend(first, edge, true),
-            second: self.second.lend(second, edge, true),
-            words: *words,
-        };
-        let written = self.buffer.lend(buffer, edge, expected == *buffer);
-        let found = (call.library)(&lent, written);
-        let after = written.to_vec();
-        let beside = if self.buffer.is_painted() { "" } else { ", and bytes beside the buffer" };
-        if found == answer && after == expected && beside.is_empty() {
-            return Ok(answer.0);
-        }
-        let said = |answer: &Told, buffer: &[u8]| format!("{} {buffer:02x?}", answer.1);
-        let (found, answer) = (said(&found, &after), said(&answer, &expected));
-        let asked = format!("{}, {edge:?}: {case:02x?}", call.name);
-        Err(format!("{asked}\n    library   {found}{beside}\n    reference {answer}"))
-    }
 }
