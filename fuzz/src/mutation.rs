@@ -34,11 +34,11 @@ fn change_room(random: &mut Random, input: &mut Input) {
     input.case.buffer = vec![0xc3; room.min(65_535)];
 }
 
-/// An import's name, or a sheet's with its length.
+/// A name that is handed over, or a sheet's with its length.
 fn change_name(random: &mut Random, input: &mut Input) {
     let name = vec![b'n'; random.pick(&[0, 1, 2, 20, 119, 120, 121])];
     let first = &mut input.case.first;
-    if CALLS[input.call].name == "import" {
+    if ["import", "write"].contains(&CALLS[input.call].name) {
         input.case.second = name;
     } else if first.len() > 14 {
         let end = 14 + usize::from(first[13]);
@@ -59,7 +59,7 @@ fn change_digit(random: &mut Random, input: &mut Input) {
 /// Where the vertices stand: all bytes of a list, or the body of a sheet's fifth field.
 fn vertices(input: &Input) -> Range<usize> {
     let first = &input.case.first;
-    if CALLS[input.call].name == "basin" || first.len() < 32 {
+    if ["basin", "write"].contains(&CALLS[input.call].name) || first.len() < 32 {
         return 0..first.len() / 12 * 12;
     }
     let start = (32 + usize::from(first[13])).min(first.len());

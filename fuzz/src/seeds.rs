@@ -37,6 +37,10 @@ impl Seeds {
         self.add("choose", &bytes, &asked, 0, &[]);
         self.add("basin", &vertices, &[], 0, &[grid]);
         self.add("book_next", &book, &[], 0, &[bytes.len() as i32]);
+        self.add("sheet", &bytes, &[], 0, &[]);
+        self.add("vertices", &bytes, &[], vertices.len(), &[]);
+        let ([x, y, z], [u, v, w]) = (sheet.known, sheet.second.unwrap_or([0; 3]));
+        self.add("write", &vertices, &sheet.name, bytes.len(), &[7, 1, x, y, z, u, v, w, grid]);
         self.add("compare", &bytes, &turned.bytes(), 0, &[]);
         self.add("compare", &bytes, &other.bytes(), 0, &[]);
     }
@@ -89,6 +93,7 @@ fn add_positions(seeds: &mut Seeds) {
     }
     let ring = "[[-1.5,89],[-1,89.5],[-0.5,89.1234567],[-1.5,89.0]]";
     seeds.add_import(&format!(r#"{{"coordinates":[{ring}],"type":"Polygon"}}"#), b"A", 200);
+    (0..40).for_each(|number| seeds.add("meaning", &[], &[], 60, &[number]));
     for position in [[0, 0], [1_800_000_000, -900_000_000], [236_206_135, 379_420_215]] {
         seeds.add("point", &[], &[], 0, &position);
     }

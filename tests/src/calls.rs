@@ -6,7 +6,7 @@ mod told;
 
 use crate::fractions::Angles;
 use crate::imports::{self, Given};
-use crate::{library, reference, Answer, Point};
+use crate::{library, reference, Answer, Point, Written};
 pub use rooms::Rooms;
 use std::sync::OnceLock;
 use told::{Numbered, Told};
@@ -24,7 +24,7 @@ pub struct Case {
 }
 
 /// As many as the call with the most of them takes.
-pub const WORDS: usize = 5;
+pub const WORDS: usize = 9;
 
 /// A case as it is lent.
 struct Lent<'a> {
@@ -45,6 +45,13 @@ impl Lent<'_> {
     fn given(&self) -> Given<'_> {
         let [zone, charset, ..] = self.words;
         Given { zone, charset, name: self.second, known: self.point(2) }
+    }
+
+    /// The first bytes are the vertices, the second ones the name.
+    fn written(&self) -> Written<'_> {
+        let [zone, charset, .., grid] = self.words;
+        let (name, vertices) = (self.second.into(), self.first.into());
+        Written { zone, charset, name, known: self.point(2), second: self.point(5), vertices, grid }
     }
 }
 
@@ -68,7 +75,7 @@ macro_rules! reading {
     };
 }
 
-pub const CALLS: [Call; 9] = [
+pub const CALLS: [Call; 13] = [
     reading!("judge", |lent| single(lent.first, lent.point(0))),
     Call { name: "feed", library: feed, reference: feed_by_reference },
     reading!("choose", |lent| choose(lent.first, lent.second)),
@@ -78,12 +85,22 @@ pub const CALLS: [Call; 9] = [
     reading!("compare", |lent| compare(lent.first, lent.second)),
     Call { name: "import", library: import, reference: import_by_reference },
     Call { name: "point", library: point, reference: point_by_reference },
+    Call { name: "write", library: write, reference: write_by_reference },
+    reading!("sheet", |lent| sheets::parts(lent.first)),
+    Call { name: "vertices", library: vertices, reference: vertices_by_reference },
+    Call { name: "meaning", library: meaning, reference: meaning_by_reference },
 ];
 
 /// The row with this name.
 pub fn call(name: &str) -> &'static Call {
     const TABLE: &[Call] = &CALLS;
     TABLE.iter().find(|call| call.name == name).expect("a call's name")
+}
+
+/// The answer, with these bytes at the buffer's front.
+fn put((answer, bytes): (Answer, Vec<u8>), buffer: &mut [u8]) -> Told {
+    buffer[..bytes.len()].copy_from_slice(&bytes);
+    answer.told()
 }
 
 fn feed(lent: &Lent, results: &mut [u8]) -> Told {
@@ -94,9 +111,7 @@ fn feed(lent: &Lent, results: &mut [u8]) -> Told {
 }
 
 fn feed_by_reference(lent: &Lent, results: &mut [u8]) -> Told {
-    let (answer, after) = reference::feed(lent.first, lent.second, results);
-    results.copy_from_slice(&after);
-    answer.told()
+    put(reference::feed(lent.first, lent.second, results), results)
 }
 
 fn import(lent: &Lent, sheet: &mut [u8]) -> Told {
@@ -106,9 +121,34 @@ fn import(lent: &Lent, sheet: &mut [u8]) -> Told {
 }
 
 fn import_by_reference(lent: &Lent, sheet: &mut [u8]) -> Told {
-    let (answer, written) = reference::import(lent.first, &lent.given(), sheet.len(), imports::point);
-    sheet[..written.len()].copy_from_slice(&written);
-    answer.told()
+    put(reference::import(lent.first, &lent.given(), sheet.len(), imports::point), sheet)
+}
+
+fn write(lent: &Lent, sheet: &mut [u8]) -> Told {
+    library::sheets::write(&lent.written(), sheet).told()
+}
+
+fn write_by_reference(lent: &Lent, sheet: &mut [u8]) -> Told {
+    put(reference::sheets::write(&lent.written(), sheet.len()), sheet)
+}
+
+fn vertices(lent: &Lent, buffer: &mut [u8]) -> Told {
+    library::sheets::vertices(lent.first, buffer).told()
+}
+
+fn vertices_by_reference(lent: &Lent, buffer: &mut [u8]) -> Told {
+    put(reference::sheets::vertices(lent.first, buffer.len()), buffer)
+}
+
+fn meaning(lent: &Lent, text: &mut [u8]) -> Told {
+    let number = lent.words[0];
+    (library::sheets::place_kind(number), library::sheets::meaning_text(number, text)).told()
+}
+
+fn meaning_by_reference(lent: &Lent, buffer: &mut [u8]) -> Told {
+    let (kind, text) = reference::meanings::meaning(lent.words[0]);
+    buffer.iter_mut().zip(text.bytes()).for_each(|(place, byte)| *place = byte);
+    (kind, text.len()).told()
 }
 
 fn point(lent: &Lent, _: &mut [u8]) -> Told {

@@ -70,6 +70,8 @@ mod winding;
 #[cfg(test)]
 mod yardstick;
 
+use std::borrow::Cow;
+
 /// A point as a caller hands it over: any three numbers, on the grid or not.
 pub type Point = [i32; 3];
 
@@ -111,13 +113,13 @@ pub struct Comparison {
 /// What a caller hands over to have a sheet written: the vertices in bytes, a grid by its number, a second point of
 /// all zero for none.
 #[derive(Clone, Debug)]
-pub struct Written {
+pub struct Written<'a> {
     pub zone: u32,
     pub charset: u32,
-    pub name: Vec<u8>,
+    pub name: Cow<'a, [u8]>,
     pub known: Point,
     pub second: Point,
-    pub vertices: Vec<u8>,
+    pub vertices: Cow<'a, [u8]>,
     pub grid: u32,
 }
 

@@ -1,7 +1,8 @@
 //! Documents 01 and 02 in plain Rust, from their text alone: 128-bit integers, and the shortest code
 //! that says what the documents say. The parts stand in their order, under their words: `geometry` has
 //! points and sides, `fields` the bytes of a sheet, `requests` what document 02 adds to the calls, `basin`
-//! its P9, `book` its P10, `differences` its P11, `import` its P7, `sheets` writing and reading.
+//! its P9, `book` its P10, `differences` its P11, `import` its P7, `sheets` writing and reading, `meanings` the
+//! header's table.
 
 mod basin;
 pub mod book;
@@ -9,6 +10,7 @@ mod differences;
 mod fields;
 mod geometry;
 mod import;
+pub mod meanings;
 mod requests;
 pub mod sheets;
 

@@ -1,24 +1,22 @@
 //! Sheets written and read through C, against the second implementation; and what the numbers mean, against the header.
 
 use crate::compare::Tally;
-use crate::host::repository;
 use crate::library::sheets;
 use crate::outlines::{sheet_and_queries, Numbers, Source};
 use crate::random::Random;
 use crate::sheet::{octant, octant_pair, points_bytes, Grid, Sheet, GRIDS};
 use crate::{reference, Answer, Point, Written};
-use std::{collections::HashMap, fs};
 
 const PAINT: u8 = 0xa5;
 
-fn written(sheet: &Sheet) -> Written {
+fn written(sheet: &Sheet) -> Written<'static> {
     Written {
         zone: sheet.zone,
         charset: sheet.charset.into(),
-        name: sheet.name.clone(),
+        name: sheet.name.clone().into(),
         known: sheet.known,
         second: sheet.second.unwrap_or([0; 3]),
-        vertices: points_bytes(&sheet.vertices),
+        vertices: points_bytes(&sheet.vertices).into(),
         grid: if sheet.grid == Grid::Coarse { 0 } else { 1 },
     }
 }
@@ -52,20 +50,23 @@ fn compare_writing(given: &Written, room: usize) -> Answer {
         assert_eq!(compare_reading(&buffer[..expected.place]), expected);
         let mut back = vec![PAINT; given.vertices.len()];
         assert_eq!(sheets::vertices(&buffer[..expected.place], &mut back).number, 0);
-        assert_eq!(back, given.vertices);
+        assert_eq!(given.vertices, back);
     }
     expected
 }
 
 /// The given parts with one or two of them spoilt, now and then none.
-fn spoilt(random: &mut Random, mut given: Written) -> Written {
+fn spoilt<'a>(random: &mut Random, mut given: Written<'a>) -> Written<'a> {
     for _ in 0..random.below(3) {
         match random.below(8) {
             0 => given.charset = random.pick(&[0, 2, 3, 4, 256, 257, u32::MAX]),
-            1 => given.name = vec![0xce; random.pick(&[0, 2, 119, 120, 121, 300])],
+            1 => given.name = vec![0xce; random.pick(&[0, 2, 119, 120, 121, 300])].into(),
             2 => given.grid = random.pick(&[0, 1, 2, 256, u32::MAX]),
-            3 => given.vertices.truncate(given.vertices.len().saturating_sub(1 + random.below(23))),
-            4 => given.vertices.truncate(12 * random.below(4)),
+            3 => {
+                let length = given.vertices.len().saturating_sub(1 + random.below(23));
+                given.vertices.to_mut().truncate(length);
+            }
+            4 => given.vertices.to_mut().truncate(12 * random.below(4)),
             5 => given.second = random.point(3),
             6 => given.known = random.point(3),
             _ => given.zone = random.bits() as u32,
@@ -113,7 +114,7 @@ fn sheets_of_all_lengths() {
     for length in (0..50).chain(49_135..49_180) {
         for grid in [0, 1, 2] {
             let given = Written {
-                vertices: long[..length].to_vec(),
+                vertices: long[..length].into(),
                 grid,
                 known: [-271_828, -314_159, 577],
                 ..written(&octant())
@@ -131,7 +132,7 @@ fn sheets_in_little_stack() {
     let given =
         Written { known: [-271_828, -314_159, 577], ..written(&Sheet::new([1; 3], &long_list(4_096))) };
     let mut sheet = vec![PAINT; 49_319];
-    let mut back = given.vertices.clone();
+    let mut back = given.vertices.to_vec();
     let work = move || {
         let number = sheets::write(&given, &mut sheet).number;
         let sheet = &sheet[..32 + given.name.len() + given.vertices.len()];
@@ -156,37 +157,12 @@ fn octant_sheets() {
     }
 }
 
-/// The header's texts, by its own table of names.
-fn header_texts() -> HashMap<u32, String> {
-    let header = fs::read_to_string(repository("include/spargolutta.h")).expect("header");
-    let mut numbers = HashMap::new();
-    for line in header.lines().filter_map(|line| line.trim().strip_prefix("SPG_")) {
-        if let Some((name, rest)) = line.split_once(" = ") {
-            let digits: String = rest.chars().take_while(char::is_ascii_digit).collect();
-            digits.parse::<u32>().into_iter().for_each(|n| drop(numbers.insert(name.to_string(), n)));
-        }
-    }
-    let texts = header.lines().filter_map(|line| line.trim().strip_prefix("case SPG_"));
-    let texts = texts.filter_map(|line| line.split_once(": return \""));
-    texts.map(|(name, rest)| (numbers[name], rest.trim_end_matches("\";").to_string())).collect()
-}
-
 #[test]
 fn meanings() {
-    let texts = header_texts();
-    assert_eq!(texts.len(), 30);
-    let kinds: [(u32, &[u32]); 6] = [
-        (1, &[3, 13, 14, 16, 35]),
-        (2, &[11, 12]),
-        (3, &[20, 21, 22, 23, 24, 30, 36]),
-        (4, &[25, 27]),
-        (5, &[31, 33]),
-        (6, &[0]),
-    ];
     for number in (0..300).chain([65_536, 1 << 31, u32::MAX]) {
-        let kind = kinds.iter().find(|(_, numbers)| numbers.contains(&number)).map_or(0, |&(kind, _)| kind);
+        let (kind, text) = reference::meanings::meaning(number);
         assert_eq!(sheets::place_kind(number), kind, "{number}");
-        let text = texts.get(&number).map_or("unknown number", String::as_str).as_bytes();
+        let text = text.as_bytes();
         for room in [0, 1, text.len() - 1, text.len(), text.len() + 1, 80] {
             let mut buffer = vec![PAINT; room];
             assert_eq!(sheets::meaning_text(number, &mut buffer), text.len(), "{number}");

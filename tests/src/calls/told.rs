@@ -1,6 +1,6 @@
 //! Answers of any kind, to be compared, printed and counted.
 
-use crate::{Answer, Comparison, Point, Single, Which};
+use crate::{Answer, Comparison, Parts, Point, Single, Which};
 use std::fmt::Debug;
 
 /// An answer: its number, and all of it in words.
@@ -39,6 +39,19 @@ impl Numbered for Which {
 impl Numbered for Comparison {
     fn number(&self) -> u32 {
         self.number
+    }
+}
+
+impl Numbered for Parts {
+    fn number(&self) -> u32 {
+        self.answer.number
+    }
+}
+
+/// What the place of a number is, and how long its text is.
+impl Numbered for (u32, usize) {
+    fn number(&self) -> u32 {
+        self.0
     }
 }
 

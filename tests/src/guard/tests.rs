@@ -1,9 +1,10 @@
 //! Every exported call on guarded pages: good input, refused input and input of every length, at both edges.
 
+mod made;
+
 use super::{Edge, Room};
 use crate::calls::{call, Case, Rooms, CALLS, WORDS};
 use crate::compare::Tally;
-use crate::imports::{circle, given, text};
 use crate::islands::{islands_on, Extent};
 use crate::outlines::{sheet_and_queries, Numbers::Within, Source};
 use crate::random::Random;
@@ -183,30 +184,23 @@ fn guarded_compare() {
     compare("compare", &cases, 4_000, [0, 20, 24]);
 }
 
-/// Texts, names and buffers of every length. A sheet has 32 bytes, the name's, and 12 for each position but the last.
-#[test]
-fn guarded_import() {
-    let [x, y, z] = given().known;
-    let mut cases = vec![];
-    let mut add = |text: &[u8], name: usize, room: usize| {
-        let (first, second, buffer) = (text.to_vec(), vec![b'n'; name], vec![0xc3; room]);
-        cases.push(Case { first, second, buffer, words: words(&[7, 1, x, y, z]) });
-    };
-    let small = text(&circle(9)).into_bytes();
-    lengths(&small).iter().for_each(|text| add(text, 1, 129));
-    (0..=130).for_each(|name| add(&small, name, 128 + name));
-    (0..=300).for_each(|room| add(&small, 1, room));
-    for n in [4_096, 4_097, 4_098] {
-        let (long, needed) = (text(&circle(n)).into_bytes(), 33 + 12 * (n - 1));
-        [needed - 1, needed, needed + 1].iter().for_each(|&room| add(&long, 1, room));
-        add(&long[..long.len() - 1], 120, 60_000);
-    }
-    compare("import", &cases, 1_400, [0, 10, 22, 25, 30]);
-}
-
 /// A call that is added to the table has its cases here. Positions are handed over by value.
 #[test]
 fn guarded_calls() {
-    let tested = ["judge", "feed", "choose", "basin", "book", "book_next", "compare", "import", "point"];
+    let tested = [
+        "judge",
+        "feed",
+        "choose",
+        "basin",
+        "book",
+        "book_next",
+        "compare",
+        "import",
+        "point",
+        "write",
+        "sheet",
+        "vertices",
+        "meaning",
+    ];
     assert_eq!(CALLS.map(|call| call.name), tested);
 }
