@@ -4,6 +4,7 @@
 use spargolutta_tests::calls::{Case, CALLS, WORDS};
 use spargolutta_tests::guard::{Edge, ROOM};
 
+#[derive(Clone)]
 pub struct Input {
     pub call: usize,
     pub edge: Edge,

@@ -11,7 +11,7 @@ use spargolutta_tests::random::Random;
 use std::cell::RefCell;
 use std::collections::BTreeMap;
 use std::path::Path;
-use std::sync::Mutex;
+use std::sync::{Mutex, OnceLock};
 use std::{env, fs, process, slice};
 
 extern "C" {
@@ -50,8 +50,7 @@ pub extern "C" fn LLVMFuzzerInitialize(_: *const i32, _: *const *const *const u8
 pub unsafe extern "C" fn LLVMFuzzerTestOneInput(data: *const u8, size: usize) -> i32 {
     thread_local!(static ROOMS: RefCell<Rooms> = RefCell::new(Rooms::new()));
     let bytes = if size == 0 { &[] } else { slice::from_raw_parts(data, size) };
-    // -1 keeps what is no case out of the corpus.
-    let Some(Input { call, edge, case }) = Input::of(bytes) else { return -1 };
+    let Some(Input { call, edge, case }) = Input::of(bytes) else { return 0 };
     match ROOMS.with_borrow_mut(|rooms| rooms.compare(&CALLS[call], &case, edge)) {
         Ok(number) => *NUMBERS.lock().expect("one thread")[call].entry(number).or_default() += 1,
         Err(difference) => {
@@ -62,8 +61,21 @@ pub unsafe extern "C" fn LLVMFuzzerTestOneInput(data: *const u8, size: usize) ->
     0
 }
 
-/// Half of the time a case is changed, half of the time bytes are.
-///
+/// The case changed, half of the time; the other half is left to libFuzzer. Texts have so many forms that they would
+/// take most of a run: half of them give way to a seed.
+fn changed(random: &mut Random, bytes: &[u8]) -> Option<Vec<u8>> {
+    static SEEDS: OnceLock<Vec<Input>> = OnceLock::new();
+    let mut input = Input::of(bytes)?;
+    if CALLS[input.call].name == "import" && random.once_in(2) {
+        let seeds = SEEDS.get_or_init(seeds::seeds);
+        input = seeds[random.below(seeds.len())].clone();
+    } else if random.once_in(2) {
+        return None;
+    }
+    mutation::mutate(random, &mut input);
+    Some(input.bytes())
+}
+
 /// # Safety
 /// libFuzzer hands over `size` bytes in room for `most`.
 #[no_mangle]
@@ -73,16 +85,11 @@ pub unsafe extern "C" fn LLVMFuzzerCustomMutator(
     most: usize,
     seed: u32,
 ) -> usize {
-    let random = &mut Random::new(seed.into());
-    if random.once_in(2) {
-        if let Some(mut input) = Input::of(slice::from_raw_parts(data, size)) {
-            mutation::mutate(random, &mut input);
-            let bytes = input.bytes();
-            if bytes.len() <= most {
-                data.copy_from_nonoverlapping(bytes.as_ptr(), bytes.len());
-                return bytes.len();
-            }
+    match changed(&mut Random::new(seed.into()), slice::from_raw_parts(data, size)) {
+        Some(bytes) if bytes.len() <= most => {
+            data.copy_from_nonoverlapping(bytes.as_ptr(), bytes.len());
+            bytes.len()
         }
+        _ => LLVMFuzzerMutate(data, size, most),
     }
-    LLVMFuzzerMutate(data, size, most)
 }

@@ -4,6 +4,7 @@
 use crate::input::Input;
 use spargolutta_tests::calls::{CALLS, WORDS};
 use spargolutta_tests::guard::Edge;
+use spargolutta_tests::imports::text;
 use spargolutta_tests::random::Random;
 use spargolutta_tests::sheet::point_bytes;
 use spargolutta_tests::Point;
@@ -16,6 +17,7 @@ pub fn mutate(random: &mut Random, input: &mut Input) {
             1 => change_room(random, input),
             2 => aim_words(random, input),
             3 => change_name(random, input),
+            4 if CALLS[input.call].name == "import" => input.case.first = any_ring(random),
             _ if CALLS[input.call].name == "import" => change_digit(random, input),
             4..=6 => move_point(random, input),
             7 => insert_vertex(random, input),
@@ -45,6 +47,19 @@ fn change_name(random: &mut Random, input: &mut Input) {
         first[13] = name.len() as u8;
         first.splice(14..end.min(first.len()), name);
     }
+}
+
+/// A closed ring near an axis or elsewhere, some of it past the range or too far apart.
+fn any_ring(random: &mut Random) -> Vec<u8> {
+    const DEGREE: i32 = 10_000_000;
+    let centre = [random.pick(&[0, 90, 180, -180, 17]), random.pick(&[0, 90, -90, 59])];
+    let spread = random.pick(&[3, 200, DEGREE / 2, DEGREE / 2 + 1]);
+    let beside =
+        |k: i32, random: &mut Random| i64::from(k * DEGREE) + i64::from(random.between(-spread, spread));
+    let positions = 3 + random.below(6);
+    let mut ring: Vec<[i64; 2]> = (0..positions).map(|_| centre.map(|k| beside(k, random))).collect();
+    ring.push(ring[0]);
+    text(&ring).into_bytes()
 }
 
 /// Of a position in a text.
