@@ -1,10 +1,15 @@
-// What the program reads: the sheet's file, and standard input in pieces of whole queries.
-// Here, in order: read_sheet, read_queries.
+// What the program reads: the sheet's file, and standard input in pieces of whole queries. What cannot be read is said on
+// standard error.
+// Here, in order: read_sheet, read_queries, fail, is_terminal.
 
 ghost use mathlib.Core.Path.{_≡_};
 ghost use Prim.Native.Nat.{_%_, _≤_};
 ghost use lib.ListN.{length};
 ghost use Rattle.io.specs.Counts.{Counts};
+use crate::calls;
+use crate::calls::Filled;
+use libc::ENOENT;
+use libc::STDERR_FILENO;
 use libc::STDIN_FILENO;
 
 // One byte more than the longest sheet, so that a longer file is seen to be one.
@@ -15,31 +20,61 @@ pub(crate) const QUERY: usize = 12;
 
 pub(crate) const PIECE: usize = 49_152;
 
-// The number of the sheet's bytes, which are put at the start of `bytes`.
-pub(crate) fn read_sheet(bytes: &mut [u8; 49320]) -> usize
-    ensures { λ r. ⌜ Counts r (now (bytes .exit)) ⌝ }
+// The sheet's bytes, put at the start of `bytes`. A missing file is an empty sheet; one that cannot be read is not.
+pub(crate) fn read_sheet(bytes: &mut [u8; 49320]) -> Filled
+    ensures { λ r. ⌜ Counts (r .size) (now (bytes .exit)) ⌝ }
 {
     let fd = os::open_read(b"zone.sheet");
     if fd < 0 {
-        return 0;
+        if os::errno() == ENOENT {
+            return Filled {
+                size: 0,
+                failed: false,
+            };
+        }
+        os::fail(b"zone_judge: zone.sheet");
+        return Filled {
+            size: 0,
+            failed: true,
+        };
     }
-    let n = io::read_full(fd, bytes);
+    let filled = calls::fill(fd, bytes, 0, SHEET_MOST);
+    if filled.failed {
+        os::fail(b"zone_judge: zone.sheet");
+        return filled;
+    }
     libc::close(fd);
-    n
+    filled
 }
 
 // Reads what is there, and the rest of the last query: no more, so that a caller that waits for its answers gets them.
-// The number of bytes read is 0 or not a multiple of 12 only where the input ends.
-pub(crate) fn read_queries(piece: &mut [u8]) -> usize
+// Without a failure, the number of bytes read is 0 or not a multiple of 12 only where the input ends.
+pub(crate) fn read_queries(piece: &mut [u8]) -> Filled
     requires { ⌜ length (now piece) % 12 ≡ 0 ⌝ }
-    ensures { λ r. ⌜ r ≤ length (now (piece .entry)) ⌝ }
+    ensures { λ r. ⌜ r .size ≤ length (now (piece .entry)) ⌝ }
 {
-    let got = libc::read(STDIN_FILENO, piece);
-    let n = io::count(got, piece);
+    let got = calls::read(STDIN_FILENO, piece);
+    let n = got.size;
     let part = n % QUERY;
     if part == 0 {
-        return n;
+        return got;
     }
-    let whole = n - part + QUERY;
-    n + io::read_full(STDIN_FILENO, &mut piece[n..whole])
+    calls::fill(STDIN_FILENO, piece, n, n - part + QUERY)
+}
+
+// Says why standard input could not be read, just after that.
+pub(crate) fn fail() {
+    os::fail(b"zone_judge: standard input");
+}
+
+// Whether standard input is a terminal, where nobody types queries of 12 bytes. It is said on standard error.
+pub(crate) fn is_terminal() -> bool {
+    if libc::isatty(STDIN_FILENO) == 0 {
+        return false;
+    }
+    io::write_all(
+        STDERR_FILENO,
+        b"zone_judge: standard input is a terminal; queries of 12 bytes come from a file or a pipe\n",
+    );
+    true
 }

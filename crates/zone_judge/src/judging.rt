@@ -35,16 +35,23 @@ fn put_lines(results: &[u8], n: usize, out: &mut [u8]) -> usize
 }
 
 // One piece: reads, judges and writes. The number of its queries, or 0 where there is nothing more to do: the input
-// ended or a write failed.
+// ended, or a read or a write failed. After a read that failed the whole queries before it are answered, and nothing is
+// said of a cut one: the input did not end there.
 fn judge_piece(sheet: &[u8], done: u64, piece: &mut [u8], results: &mut [u8], out: &mut [u8]) -> u64
     requires { ⌜ (done < 18000000000000000000) × (length (now piece) ≡ 49152) ⌝ }
     requires { ⌜ (length (now results) ≡ 49152) × (length (now out) ≡ 258048) ⌝ }
     ensures { λ r. ⌜ r ≤ 4096 ⌝ }
 {
-    let size = input::read_queries(piece);
+    let got = input::read_queries(piece);
+    let size = got.size;
     let n = size / input::QUERY;
     judge_whole(sheet, piece, n * input::QUERY, results);
     let end = put_lines(results, n, out);
+    if got.failed {
+        input::fail();
+        lines::print(out, end);
+        return 0;
+    }
     if size % input::QUERY == 0 {
         if lines::print(out, end) {
             return n as u64;

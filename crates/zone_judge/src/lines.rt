@@ -1,10 +1,12 @@
 // Lines of output, put into a buffer: number, place and count, parted by single spaces.
-// Here, in order: digit_count, put_number, put_line, put_result, put_answer, print.
+// Here, in order: digit_count, put_number, put_line, put_result, put_answer, fail, print, finish.
 
 ghost use Prim.Native.Nat.{_+_, _≤_};
 ghost use lib.ListN.{length};
+use crate::calls;
 use answer::Answer;
 use big_endian::read;
+use libc::EBADF;
 use libc::STDOUT_FILENO;
 
 // The bytes of the longest line: three numbers of at most 20 digits, two spaces and the end of the line.
@@ -74,9 +76,28 @@ pub(crate) fn put_answer(given: Answer, out: &mut [u8], at: usize) -> usize
     put_line(number, place as u64, answer::count(given), out, at)
 }
 
-// Writes the first bytes of `out` to standard output. Whether all were written.
+// Says why standard output could not be written, just after that.
+fn fail() {
+    os::fail(b"zone_judge: standard output");
+}
+
+// Writes the first bytes of `out` to standard output. Whether all were written; if not, standard error says why.
 pub(crate) fn print(out: &[u8], end: usize) -> bool
     requires { ⌜ end ≤ length (now out) ⌝ }
 {
-    io::write_all(STDOUT_FILENO, &out[..end])
+    let written = calls::write_all(STDOUT_FILENO, &out[..end]);
+    if !written {
+        fail();
+    }
+    written
+}
+
+// Standard output is done with. Some file systems say only now that the disk is full. One that was closed from the
+// start has been told of, if there was anything to write.
+pub(crate) fn finish() {
+    if libc::close(STDOUT_FILENO) < 0 {
+        if os::errno() != EBADF {
+            fail();
+        }
+    }
 }

@@ -1,0 +1,58 @@
+-- `calls::write` meets its contract.
+use Prim.Native.Nat.{_-_}
+use borrow.Author.Needs.{needs}
+use Rattle.zone_judge.proofs.calls.write.Statement.{statement}
+use Rattle.zone_judge.proofs.calls.write.Tie as tie
+
+abbrev Inv-loop : tie.InvT-loop
+Inv-loop fd buf tries₀ tries = Unit {0}
+
+abbrev μ-loop : tie.MeasureT-loop
+μ-loop fd buf tries₀ tries = 18000000000000000000 - tries
+
+loop-holds : tie.Need-loop-holds Inv-loop μ-loop
+loop-holds c = search needs
+
+write-requires : tie.Need-write-requires Inv-loop μ-loop
+write-requires c κs = search needs
+
+count-requires : tie.Need-count-requires Inv-loop μ-loop
+count-requires c κs = search needs
+
+returns : tie.Need-returns Inv-loop μ-loop
+returns c = search needs
+
+waits-requires : tie.Need-waits-requires Inv-loop μ-loop
+waits-requires c κs = search needs
+
+add-tries : tie.Need-add-tries Inv-loop μ-loop
+add-tries c = search needs
+
+loop-less : tie.Need-loop-less Inv-loop μ-loop
+loop-less c = search needs
+
+loop-again : tie.Need-loop-again Inv-loop μ-loop
+loop-again c = search needs
+
+returns-2 : tie.Need-returns-2 Inv-loop μ-loop
+returns-2 c = search needs
+
+returns-3 : tie.Need-returns-3 Inv-loop μ-loop
+returns-3 c = search needs
+
+pub write-spec : {M : Type 1} → statement M
+write-spec =
+    tie.close
+    (tie.spec
+    Inv-loop
+    μ-loop
+    loop-holds
+    write-requires
+    count-requires
+    returns
+    waits-requires
+    add-tries
+    loop-less
+    loop-again
+    returns-2
+    returns-3)
