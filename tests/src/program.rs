@@ -10,15 +10,15 @@ use std::collections::BTreeSet;
 use std::fs::{self, File};
 use std::process::Command;
 
-const K2_K3_K5_K8: [Point; 4] = [[3, 2, 1], [1, 1, 0], [1, 1, -1], [-1, -1, -1]];
+pub const K2_K3_K5_K8: [Point; 4] = [[3, 2, 1], [1, 1, 0], [1, 1, -1], [-1, -1, -1]];
 
-fn random_input(seed: u64, queries: usize) -> Vec<u8> {
+pub fn random_input(seed: u64, queries: usize) -> Vec<u8> {
     let mut random = Random::new(seed);
     points_bytes(&(0..queries).map(|_| random.point(3)).collect::<Vec<Point>>())
 }
 
 /// The program in a folder with this sheet, or with none.
-fn zone_judge(folder: &Folder, sheet: Option<&[u8]>) -> Command {
+pub fn zone_judge(folder: &Folder, sheet: Option<&[u8]>) -> Command {
     match sheet {
         Some(bytes) => drop(folder.write("zone.sheet", bytes)),
         None => drop(fs::remove_file(folder.path("zone.sheet"))),
