@@ -71,6 +71,8 @@ mod which_harbour;
 mod winding;
 #[cfg(test)]
 mod yardstick;
+#[cfg(test)]
+mod zones;
 
 use std::borrow::Cow;
 
