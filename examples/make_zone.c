@@ -20,7 +20,7 @@
 #include <stdio.h>
 #include <string.h>
 
-#define STEPS 8                   /* grid steps that a known point is moved, at most */
+#define STEPS 64                  /* grid steps that a known point is moved, at most */
 #define EARTH 6371008.8           /* the mean radius, in metres */
 #define RADIAN 572957795.13082321 /* in ten-millionths of a degree */
 

@@ -90,7 +90,7 @@ fn position([x, y, z]: Point) -> Position {
 
 #[test]
 fn zones_from_rings() {
-    let make_zone = MakeZone::new("zones");
+    let (make_zone, mut judged) = (MakeZone::new("zones"), 0);
     for shape in [harbour(), star(), crescent(), long_coast()] {
         for grid in GRIDS {
             let (sheet, known, vertices) = make_zone.make(grid, &closed(&shape.ring));
@@ -104,8 +104,10 @@ fn zones_from_rings() {
                 found[usize::from(inside)] += 1;
             }
             assert!(found[0] >= 15 && found[1] >= 15, "{} {found:?}", shape.name);
+            judged += stops.len();
         }
     }
+    println!("zones: {judged} stops judged");
 }
 
 /// The sheet byte by byte; and the same one where vertices are repeated, or so near that they are one on the grid.
