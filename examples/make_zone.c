@@ -30,7 +30,10 @@ static uint8_t vertices[SPG_POINT_SIZE * SPG_VERTICES_MOST], sheet[SPG_SHEET_MOS
 
 static void refuse(const char *what, uint32_t number, size_t place)
 {
-    fprintf(stderr, "refused: %s: %s (%u), place %zu\n", what, spg_meaning(number), (unsigned)number, place);
+    fprintf(stderr, "refused: %s: %s (%u)", what, spg_meaning(number), (unsigned)number);
+    if (spg_place_kind(number) != SPG_PLACE_NONE)
+        fprintf(stderr, ", place %zu", place);
+    fputc('\n', stderr);
     exit(1);
 }
 
@@ -74,13 +77,15 @@ static char *read_position(char *line, size_t number, int32_t *position, int32_t
 {
     char *rest = line;
     line[strcspn(line, "\r\n")] = '\0';
-    if (!read_degrees(&rest, position) || !read_degrees(&rest, position + 1)) {
-        fprintf(stderr, "refused: line %zu: '%s' is not 'longitude latitude'\n", number, line);
+    const char *why = NULL;
+    if (!read_degrees(&rest, position) || !read_degrees(&rest, position + 1))
+        why = "not 'longitude latitude'";
+    else if (spg_point_number(position[0], position[1]) != SPG_DONE)
+        why = spg_meaning(SPG_POSITION_OUTSIDE); /* 565 degrees west would be a good point by sine and cosine */
+    if (why != NULL) {
+        fprintf(stderr, "refused: line %zu: '%s': %s\n", number, line, why);
         exit(1);
     }
-    /* 565 degrees west would be a good point by sine and cosine. */
-    if (spg_point_number(position[0], position[1]) != SPG_DONE)
-        refuse(line, spg_point_number(position[0], position[1]), number);
     double lon = position[0] / RADIAN, lat = position[1] / RADIAN;
     bool coarse = grid == SPG_COARSE;
     p[0] = coarse ? spg_point_x(position[0], position[1]) : (int32_t)lround(SPG_GRID_FINE * cos(lat) * cos(lon));

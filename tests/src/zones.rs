@@ -142,15 +142,15 @@ fn zones_repeated_vertices() {
 #[test]
 fn zones_refused() {
     let (make_zone, ring) = (MakeZone::new("zones-refused"), harbour().ring);
-    let open = "ring: ring not closed or under four positions (32), place 0";
+    let open = "ring: ring not closed or under four positions (32)";
     make_zone.refused(&lines(&ring), open);
     make_zone.refused(&closed(&ring[..2]), open);
     make_zone.refused("", open);
-    let far = "-565 10: latitude past 90 or longitude past 180 degrees (31), place 2";
+    let far = "line 2: '-565 10': latitude past 90 or longitude past 180 degrees";
     make_zone.refused("1 2\n-565 10\n1 2\n", far);
-    make_zone.refused("1 2\n1,5 2\n1 2\n", "line 2: '1,5 2' is not 'longitude latitude'");
+    make_zone.refused("1 2\n1,5 2\n1 2\n", "line 2: '1,5 2': not 'longitude latitude'");
     let one = [ring[0]; 4];
-    make_zone.refused(&lines(&one), "ring: list of a length not allowed (10), place 0");
+    make_zone.refused(&lines(&one), "ring: list of a length not allowed (10)");
     let equator: Vec<Position> = (0..36).map(|k| [f64::from(10 * k - 180), 0.0]).collect();
     make_zone.refused(&closed(&equator), "ring: reaches a quarter of the globe: find a known point by hand");
 }
