@@ -1,54 +1,102 @@
+# make            this list
 # make run        the program, built and run on document 01's octant: four lines
 # make test       the gate: the layout, rt ci, the host tests; ends with rt's 'N passed, 0 failed'
-# make lib        target/staticlib/libspargolutta.a, to link with include/spargolutta.h
+# make check      the same
+# make lib        target/staticlib/libspargolutta.a, and target/sharedlib/libspargolutta.so made of it
 # make bin        target/bin/zone_judge, the program
-# make install    header, archive and pkg-config file under PREFIX (no spaces in it)
+# make install    copies what is built: PREFIX (/usr/local), LIBDIR (PREFIX/lib), all below DESTDIR
+# make uninstall  removes what 'make install' with the same variables put there
 # make host-test  the host tests alone
-# make bench      the library and the program against Rust and C, as ratios of times and instructions
+# make bench      the library and the program against Rust and C: times, instructions, docs/feed-time.svg
 # make fuzz       libFuzzer over all calls against the host tests' second implementation, for SECONDS=60 seconds
 # make numbers    share/spargolutta/numbers.tsv, the table of numbers for other languages
 # make fmt        the layout that the gate asks for
+# make clean      removes target/; the next build proves every crate again
 SHELL := /bin/bash
 .SHELLFLAGS := -o pipefail -ec
-.PHONY: run test lib bin install host-test bench fuzz numbers fmt
+.PHONY: help run test check lib bin install uninstall host-test bench fuzz numbers fmt clean
+# rt and cargo use all cores by themselves.
+.NOTPARALLEL:
+.DELETE_ON_ERROR:
 
-PREFIX ?= /usr/local
-DESTDIR ?=
-INSTALLED := $(DESTDIR)$(abspath $(PREFIX))
-CARGO := CARGO_TARGET_DIR=$(CURDIR)/target/cargo cargo
+help:
+	@sed -n '/^#/!q; s/^# //p' Makefile
 
+# Building
+
+ARCHIVE := target/staticlib/libspargolutta.a
+SHARED := target/sharedlib/libspargolutta.so
+PROGRAM := target/bin/zone_judge
+# Folders too: their times tell of files that were removed.
+SOURCES := rattle-toolchain crates.txt $(shell find crates -name must-fail -prune -o -print)
+# As the header says it: MAJOR, MINOR or PATCH.
+VERSION_PART = $(shell sed -n 's/^\#define SPG_VERSION_$(1) //p' include/spargolutta.h)
+MAJOR := $(call VERSION_PART,MAJOR)
+VERSION := $(MAJOR).$(call VERSION_PART,MINOR).$(call VERSION_PART,PATCH)
+
+# Stops where rt is missing or is not the one in the file rattle-toolchain.
+TOOLCHAIN = wanted=$$(cat rattle-toolchain); found=$$(rt version 2> /dev/null || true); \
+	[ "$$found" = "$$wanted" ] \
+	|| { echo "Proving needs the Rattle toolchain '$$wanted'; on the PATH is $${found:-none}." >&2; exit 1; }
 # Shows rt's lines as they come, with 'k of n' (tests/progress); the prover's notes go to a log, named on failure.
-PROVE = log=$$(mktemp); $(1) 2>&1 | tee "$$log" | tests/progress $(2) >&2 \
+PROVE = $(TOOLCHAIN); log=$$(mktemp); $(1) 2>&1 | tee "$$log" | tests/progress $(2) >&2 \
 	|| { echo "The whole log: $$log" >&2; tail -n 40 "$$log" >&2; exit 1; }; rm "$$log"
 # How many crates rt goes through for one: itself and those under it, by crates.txt.
 UNDER = $(shell awk -v top=$(1) '/^[a-z]/ { sub(":", "", $$1); for (i = 2; i <= NF; i++) under[$$1] = under[$$1] " " $$i; \
 	listed[$$1] } function mark(c,  i, n, cs) { if (!(c in listed) || c in seen) return; seen[c]; k++; \
 	n = split(under[c], cs, " "); for (i = 1; i <= n; i++) mark(cs[i]) } END { mark(top); print k }' crates.txt)
 
+lib: $(ARCHIVE) $(SHARED)
+
+bin: $(PROGRAM)
+
+# rt leaves alone what it finds unchanged, hence 'touch'.
+$(ARCHIVE): $(SOURCES)
+	@$(call PROVE,rt staticlib spargolutta,$(call UNDER,spargolutta))
+	@touch $@
+
+$(PROGRAM): $(SOURCES)
+	@$(call PROVE,rt check zone_judge,$(call UNDER,zone_judge))
+	@touch $@
+
+# The soname has the header's major number.
+$(SHARED): $(ARCHIVE) packaging/spargolutta.map include/spargolutta.h
+	@mkdir -p $(@D)
+	@cc -shared -o $@ -Wl,-soname,libspargolutta.so.$(MAJOR) -Wl,--version-script=packaging/spargolutta.map \
+		-Wl,-z,defs -Wl,-z,text -Wl,--whole-archive $(ARCHIVE) -Wl,--no-whole-archive
+
 run: bin
-	@cd crates/zone_judge/data && $(CURDIR)/target/bin/zone_judge < ../stdin
+	@cd crates/zone_judge/data && ../../../$(PROGRAM) < ../stdin
+
+clean:
+	rm -rf target
+
+# Installing
+
+PREFIX ?= /usr/local
+LIBDIR = $(PREFIX)/lib
+DESTDIR ?=
+
+# By the environment, so that spaces in them are kept.
+install uninstall: export SPG_PREFIX = $(PREFIX)
+install uninstall: export SPG_LIBDIR = $(LIBDIR)
+install uninstall: export SPG_DESTDIR = $(DESTDIR)
+install uninstall:
+	@packaging/install $@ $(VERSION)
+
+# Testing and measuring
+
+CARGO := CARGO_TARGET_DIR='$(CURDIR)/target/cargo' cargo
 
 # A line a crate and an edit, as they come. rt's last line, 'N passed, 0 failed', is held back until everything else has
 # passed too.
-test:
-	@log=$$(mktemp); \
+test check:
+	@$(TOOLCHAIN); log=$$(mktemp); \
 	rt fmt --check; \
 	n=$$(cat <(grep '^[a-z]' crates.txt) <(ls crates/*/must-fail/*.edit) | wc -l); \
 	rt ci | tee "$$log" | tests/progress $$n || { echo "The whole log: $$log"; tail -n 40 "$$log"; exit 1; }; \
 	$(MAKE) --no-print-directory host-test; \
 	tail -n 1 "$$log"; rm "$$log"
-
-lib:
-	@$(call PROVE,rt staticlib spargolutta,$(call UNDER,spargolutta))
-
-bin:
-	@$(call PROVE,rt check zone_judge,$(call UNDER,zone_judge))
-
-install: lib
-	@install -d $(INSTALLED)/include $(INSTALLED)/lib/pkgconfig
-	@install -m 644 include/spargolutta.h $(INSTALLED)/include/
-	@install -m 644 target/staticlib/libspargolutta.a $(INSTALLED)/lib/
-	@sed 's|@PREFIX@|$(abspath $(PREFIX))|' spargolutta.pc.in > $(INSTALLED)/lib/pkgconfig/spargolutta.pc
 
 host-test: lib bin
 	@$(CARGO) test --release --offline --quiet --manifest-path tests/Cargo.toml -- --nocapture \
