@@ -2,7 +2,7 @@
 //! against C that tests pair by pair.
 
 use crate::instructions::count;
-use crate::ratios;
+use crate::table::{counted_row, heading, row};
 use spargolutta_tests::host::Folder;
 use spargolutta_tests::library;
 use spargolutta_tests::random::Random;
@@ -77,15 +77,16 @@ fn measure(grid: Grid, vertices: &[u8]) -> Vec<f64> {
 }
 
 pub fn compare() {
-    println!("The basin profile of {SIDES} sides, ours to rows in C, pairs in C:");
+    let title =
+        format!("The basin profile of {SIDES} sides: ms, least of {ROUNDS} rounds; millions of instructions");
+    heading(&title, &contestants(Grid::Coarse).map(|(name, _)| name));
     for grid in GRIDS {
         let vertices = points_bytes(&star(&mut Random::new(1), grid, SIDES));
-        println!("{:>24}: {}", format!("{grid:?}"), ratios(&measure(grid, &vertices), "ms"));
+        row(&format!("{grid:?} grid, ms"), &measure(grid, &vertices));
         let folder = Folder::new("basin");
         folder.write("vertices", &vertices);
         let counted = |name| count(&folder, "counted_basin", &["basin", &format!("{grid:?}"), name]);
         let counts: Option<Vec<f64>> = contestants(grid).iter().map(|(name, _)| counted(name)).collect();
-        let Some(counts) = counts else { return println!("  not counted: there is no valgrind here") };
-        println!("{:>24}: {}", "instructions", ratios(&counts, "million"));
+        counted_row(&format!("{grid:?} grid, instructions"), counts.as_deref());
     }
 }

@@ -2,7 +2,7 @@
 //! book is asked in one call whose time other work on the machine would move more than the difference.
 
 use crate::instructions::count;
-use crate::ratios;
+use crate::table::{counted_row, heading, thousands};
 use spargolutta_tests::host::Folder;
 use spargolutta_tests::islands::{islands_on, queries, Extent, SIDES};
 use spargolutta_tests::library;
@@ -49,7 +49,9 @@ pub fn ask_once(folder: &Path, contestant: &str) -> bool {
 }
 
 pub fn compare() {
-    println!("Instructions of one query to a book of {SHEETS} sheets, to those of as many single calls:");
+    let title =
+        format!("One query to a book of {SHEETS} sheets, and as many single calls: millions of instructions");
+    heading(&title, &CONTESTANTS.map(|(name, _)| name));
     for sides in [64, SIDES] {
         let outlines: Vec<_> =
             (0..SHEETS).map(|i| islands_on(Grid::Coarse, i as u64, sides, Extent::Archipelago)).collect();
@@ -60,8 +62,9 @@ pub fn compare() {
         folder.write("query", &points_bytes(&queries(2, &outlines[0], 1)));
         let counts: Option<Vec<f64>> =
             CONTESTANTS.iter().map(|(name, _)| count(&folder, "counted_book", &[name])).collect();
-        let Some(counts) = counts else { return println!("  not counted: there is no valgrind here") };
-        println!("{:>24}: {}", format!("{sides} sides"), ratios(&counts, "million"));
-        assert!(counts[0] <= 1.05 * counts[1], "a book costs more than its sheets");
+        counted_row(&format!("{} sides each", thousands(sides)), counts.as_deref());
+        if let Some(counts) = counts {
+            assert!(counts[0] <= 1.05 * counts[1], "a book costs more than its sheets");
+        }
     }
 }

@@ -1,6 +1,7 @@
 //! One call, from a sheet's bytes and a query to the number.
 
-use crate::{plain_c, ratios};
+use crate::plain_c;
+use crate::table::{heading, row, thousands};
 use spargolutta_tests::islands::{islands, queries, Extent, SIDES};
 use spargolutta_tests::{library, Point};
 use spargolutta_yardstick::hoisted;
@@ -42,13 +43,14 @@ fn measure(contestants: &[Contestant], sheet: &[u8], queries: &[Point]) -> Vec<f
 }
 
 pub fn compare() {
-    println!("One call, least of {ROUNDS} rounds, ours to hoisted Rust, hoisted C:");
+    let title = format!("One call: µs, least of {ROUNDS} rounds");
+    heading(&title, &["ours", "hoisted Rust", "hoisted C"]);
     for sides in [64, SIDES, 4_096] {
         let islands = islands(1, sides, Extent::Archipelago);
         let sheet = islands.sheet();
         let queries = queries(2, &islands, 200_000 / sides);
         queries.iter().for_each(|&query| agree(&sheet, query));
         let times = measure(&[library::number, rust, c], &sheet, &queries);
-        println!("{:>24}: {}", format!("{sides} sides"), ratios(&times, "µs"));
+        row(&format!("{} sides", thousands(sides)), &times);
     }
 }

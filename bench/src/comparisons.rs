@@ -1,6 +1,7 @@
 //! Two sheets of 4,096 vertices compared: a ring that was started elsewhere, and the costliest, of which every second
 //! start agrees up to the last vertex.
 
+use crate::table::{figure, heading, line};
 use spargolutta_tests::islands::{islands, Extent};
 use spargolutta_tests::library;
 use spargolutta_tests::sheet::Sheet;
@@ -32,6 +33,7 @@ pub fn compare() {
     let mut left = right.clone();
     left.vertices[4_095] = c;
     let costliest = measure(&left.bytes(), &right.bytes(), 0);
-    println!("Two sheets of 4,096 vertices compared, ms, least of {ROUNDS} rounds:");
-    println!("    equal {read:.3}, started elsewhere {started:.3}, the costliest {costliest:.1}");
+    let title = format!("Two sheets of 4,096 vertices compared: ms, least of {ROUNDS} rounds");
+    heading(&title, &["equal", "started elsewhere", "the costliest"]);
+    line("ours", [read, started, costliest].map(figure));
 }

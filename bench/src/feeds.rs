@@ -1,6 +1,7 @@
 //! A feed call, from the bytes of a sheet and of the queries to those of the results.
 
-use crate::{plain_c, ratios};
+use crate::plain_c;
+use crate::table::{heading, row, thousands};
 use spargolutta_tests::islands::{islands_on, queries, Extent, QUERIES, SIDES};
 use spargolutta_tests::library;
 use spargolutta_tests::sheet::{points_bytes, Grid};
@@ -22,6 +23,8 @@ pub const CONTESTANTS: [(&str, Feed); 4] = [
 /// An outline and the queries to it, as bytes.
 pub struct Work {
     pub name: String,
+    pub sides: usize,
+    pub extent: Extent,
     pub sheet: Vec<u8>,
     pub queries: Vec<u8>,
 }
@@ -30,7 +33,9 @@ impl Work {
     fn new(grid: Grid, sides: usize, extent: Extent) -> Work {
         let islands = islands_on(grid, 1, sides, extent);
         Work {
-            name: format!("{sides} sides, {extent:?}"),
+            name: format!("{} sides, {extent:?}", thousands(sides)),
+            sides,
+            extent,
             sheet: islands.sheet(),
             queries: points_bytes(&queries(2, &islands, QUERIES)),
         }
@@ -40,6 +45,7 @@ impl Work {
 pub fn works(grid: Grid) -> Vec<Work> {
     let works = [
         (64, Extent::Archipelago),
+        (256, Extent::Archipelago),
         (SIDES, Extent::Harbour),
         (SIDES, Extent::Archipelago),
         (SIDES, Extent::World),
@@ -62,23 +68,35 @@ fn measure(feeds: &[Feed], work: &Work) -> Vec<(f64, Vec<u8>)> {
     measured
 }
 
-/// The contestants that ours is compared with, in order.
-pub fn others() -> String {
-    CONTESTANTS[1..].iter().map(|(name, _)| *name).collect::<Vec<_>>().join(", ")
+pub fn on_grid(grid: Grid) -> String {
+    let name = match grid {
+        Grid::Coarse => "coarse",
+        Grid::Fine => "fine",
+    };
+    format!("A feed of {} queries on the {name} grid", thousands(QUERIES))
 }
 
-pub fn compare(grid: Grid, works: &[Work]) {
-    let on_grid = match grid {
-        Grid::Coarse => "",
-        Grid::Fine => " on the fine grid",
-    };
-    println!("A feed of {QUERIES} queries{on_grid}, least of {ROUNDS} rounds, ours to {}:", others());
-    for work in works {
+/// The contestants' milliseconds for each work.
+pub fn compare(grid: Grid, works: &[Work]) -> Vec<Vec<f64>> {
+    let title = format!("{}: ms, least of {ROUNDS} rounds", on_grid(grid));
+    heading(&title, &CONTESTANTS.map(|(name, _)| name));
+    let times_of = |work: &Work| {
         let measured = measure(&CONTESTANTS.map(|(_, feed)| feed), work);
         assert!(measured.iter().all(|(_, results)| *results == measured[0].1), "the results differ");
         let times: Vec<f64> = measured.iter().map(|(least, _)| *least).collect();
-        println!("{:>24}: {}", work.name, ratios(&times, "ms"));
-    }
+        row(&work.name, &times);
+        times
+    };
+    works.iter().map(times_of).collect()
+}
+
+/// Document 02's P13: at 1,071 sides on the coarse grid at most one and a half times the hoisted Rust's time, on every
+/// extent.
+pub fn judge_p13(works: &[Work], times: &[Vec<f64>]) {
+    let timed = works.iter().zip(times).filter(|(work, _)| work.sides == SIDES);
+    let worst = timed.map(|(_, times)| times[0] / times[1]).fold(0.0, f64::max);
+    let verdict = if worst <= 1.5 { "met" } else { "missed" };
+    println!("\nP13 wants at most 1.5: {worst:.2}, {verdict}");
 }
 
 /// The single call for each query. It gives the number alone: place and count would be calls more.
@@ -97,6 +115,6 @@ pub fn compare_single_calls() {
     let [(feed, results), (single, numbers)] = &measured[..] else { unreachable!() };
     let number = |bytes: &[u8]| bytes.chunks(12).map(|result| result[..4].to_vec()).collect::<Vec<_>>();
     assert!(number(results) == number(numbers), "the feed differs from the single calls");
-    println!("The same, ours to as many single calls:");
-    println!("{:>24}: {}", work.name, ratios(&[*feed, *single], "ms"));
+    heading("The same, and as many single calls: ms", &["feed", "single calls"]);
+    row(&work.name, &[*feed, *single]);
 }

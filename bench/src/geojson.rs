@@ -1,6 +1,7 @@
 //! An import, from the text of a ring of 1,071 positions to its sheet.
 
-use crate::{instructions, plain_c, ratios};
+use crate::table::{counted_row, heading, line, row, thousands};
+use crate::{instructions, plain_c};
 use spargolutta_tests::host::{command, Folder};
 use spargolutta_tests::imports::{circle, given, import_number, text, Given};
 use std::fs;
@@ -73,17 +74,18 @@ pub fn compare() {
     let folder = Folder::new("import");
     folder.write("text", &text);
     let (mut times, sheets) = measure(&text);
-    println!("Import of {POSITIONS} positions, {} bytes, ours to C, Python's json:", text.len());
+    let sizes = [POSITIONS, text.len()].map(thousands);
+    let title = format!("Import of {} positions, {} bytes: µs, least of {ROUNDS} rounds", sizes[0], sizes[1]);
+    heading(&title, &["ours", "C", "Python's json"]);
     let by_python = python(&folder);
     times.extend(by_python.iter().map(|(time, _)| time));
-    println!("{:>24}: {}", "time", ratios(&times, "µs"));
+    row("time", &times);
     let others = sheets[1..].iter().chain(by_python.iter().map(|(_, sheet)| sheet));
-    let numbers: Vec<String> = others.map(|sheet| differing(&sheets[0], sheet).to_string()).collect();
-    println!("{:>24}: {} of {}", "numbers one apart", numbers.join(", "), 3 * (POSITIONS - 1));
+    let apart = others.map(|sheet| differing(&sheets[0], sheet).to_string());
+    let name = format!("of {} numbers one apart", thousands(3 * (POSITIONS - 1)));
+    line(&name, [String::new()].into_iter().chain(apart));
     let count =
         |(name, _): &(&str, Import)| instructions::count(&folder, "counted_import", &["import", name]);
-    match CONTESTANTS.iter().map(count).collect::<Option<Vec<f64>>>() {
-        Some(counts) => println!("{:>24}: {}", "instructions", ratios(&counts, "million")),
-        None => println!("  not counted: there is no valgrind here"),
-    }
+    let counts: Option<Vec<f64>> = CONTESTANTS.iter().map(count).collect();
+    counted_row("millions of instructions", counts.as_deref());
 }

@@ -1,9 +1,10 @@
 //! The instructions of a call, counted by valgrind's callgrind: a number that other work on the machine leaves alone.
 //! Here for feeds.
 
-use crate::feeds::{others, Feed, Work, CONTESTANTS};
-use crate::ratios;
+use crate::feeds::{on_grid, Feed, Work, CONTESTANTS};
+use crate::table::{counted_row, heading};
 use spargolutta_tests::host::{command, Folder};
+use spargolutta_tests::sheet::Grid;
 use std::path::Path;
 use std::{env, fs};
 
@@ -35,15 +36,15 @@ pub fn count(folder: &Folder, counted: &str, words: &[&str]) -> Option<f64> {
     number.map(|instructions| instructions / 1e6)
 }
 
-pub fn compare(works: &[Work]) {
-    println!("Instructions of the same feeds, ours to {}:", others());
+pub fn compare(grid: Grid, works: &[Work]) {
+    let title = format!("{}: millions of instructions", on_grid(grid));
+    heading(&title, &CONTESTANTS.map(|(name, _)| name));
     for work in works {
         let folder = Folder::new("instructions");
         folder.write("sheet", &work.sheet);
         folder.write("queries", &work.queries);
         let counts: Option<Vec<f64>> =
             CONTESTANTS.iter().map(|(name, _)| count(&folder, "counted_feed", &[name])).collect();
-        let Some(counts) = counts else { return println!("  not counted: there is no valgrind here") };
-        println!("{:>24}: {}", work.name, ratios(&counts, "million"));
+        counted_row(&work.name, counts.as_deref());
     }
 }

@@ -1,6 +1,7 @@
 //! The library against document 02's P2 in checked Rust and in C: one call, the program, a feed on each grid; the basin
-//! profile and an import against C; and a book against single calls on its sheets. The contestants take turns, and the
-//! least time of many rounds counts.
+//! profile and an import against C; a book against single calls on its sheets; and the dearest queries. The contestants
+//! take turns, and the least time of many rounds counts. Prints tables, and draws the times of feeds as
+//! docs/feed-time.svg.
 //!
 //! Started with a folder and a contestant it makes one feed call, one of the basin profile, one import, or asks one
 //! book: what `instructions` counts.
@@ -13,10 +14,12 @@ mod feeds;
 mod geojson;
 mod instructions;
 mod plain_c;
+mod plot;
 mod program;
+mod table;
 
 use spargolutta_tests::sheet::Grid;
-use std::{env, fs};
+use std::{env, fs, thread};
 
 fn processor() -> String {
     let text = fs::read_to_string("/proc/cpuinfo").unwrap_or_default();
@@ -24,11 +27,12 @@ fn processor() -> String {
     name.unwrap_or("unknown processor").to_string()
 }
 
-/// Ours to each of the others, and the figures themselves; ours is the first.
-fn ratios(figures: &[f64], unit: &str) -> String {
-    let list = |numbers: Vec<f64>| numbers.iter().map(|n| format!("{n:.2}")).collect::<Vec<_>>().join(", ");
-    let to_each = figures[1..].iter().map(|other| figures[0] / other).collect();
-    format!("{} ({} {unit})", list(to_each), list(figures.to_vec()))
+/// Running programs, on average over 1, 5 and 15 minutes: with more than the machine's cores, times are too long.
+fn print_load(when: &str) {
+    let text = fs::read_to_string("/proc/loadavg").unwrap_or_default();
+    let averages: Vec<&str> = text.split(' ').take(3).collect();
+    let cores = thread::available_parallelism().map_or(0, |cores| cores.get());
+    println!("Load of the machine {when}: {} ({cores} cores)", averages.join(", "));
 }
 
 fn main() {
@@ -42,18 +46,23 @@ fn main() {
         [folder, _, contestant] => return geojson::import_once(folder.as_ref(), contestant),
         _ => {}
     }
-    println!("Ratios on {}.", processor());
+    println!("On {}. In brackets: ours divided by the figure before them.", processor());
+    print_load("before");
     calls::compare();
     program::compare();
     basin::compare();
     let works = feeds::works(Grid::Coarse);
-    feeds::compare(Grid::Coarse, &works);
+    let times = feeds::compare(Grid::Coarse, &works);
+    feeds::judge_p13(&works, &times);
+    plot::draw(&works, &times);
     feeds::compare_single_calls();
-    instructions::compare(&works);
+    instructions::compare(Grid::Coarse, &works);
     let works = feeds::works(Grid::Fine);
     feeds::compare(Grid::Fine, &works);
-    instructions::compare(&works);
+    instructions::compare(Grid::Fine, &works);
     book::compare();
     comparisons::compare();
     geojson::compare();
+    println!();
+    print_load("after");
 }

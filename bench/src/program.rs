@@ -1,6 +1,6 @@
 //! The program against one in C: a million queries in, a million lines out.
 
-use crate::ratios;
+use crate::table::{heading, row, thousands};
 use spargolutta_tests::host::{repository, Folder};
 use spargolutta_tests::random::Random;
 use spargolutta_tests::sheet::{octant, points_bytes};
@@ -39,6 +39,7 @@ pub fn compare() {
     }
     let read = |name| fs::read(folder.path(name)).expect("answers");
     assert!(read("ours") == read("theirs"), "the programs differ");
-    println!("The program, {QUERIES} queries, least of {ROUNDS} rounds, ours to hoisted C:");
-    println!("{:>24}: {}", "octant", ratios(&least, "ms"));
+    let title = format!("The program, {} queries: ms, least of {ROUNDS} rounds", thousands(QUERIES));
+    heading(&title, &["ours", "hoisted C"]);
+    row("octant", &least);
 }
