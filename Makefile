@@ -17,6 +17,7 @@ SHELL := /bin/bash
 .PHONY: help run test check lib bin install uninstall host-test bench fuzz numbers fmt clean
 # rt and cargo use all cores by themselves.
 .NOTPARALLEL:
+MAKEFLAGS += --no-builtin-rules
 .DELETE_ON_ERROR:
 
 help:
