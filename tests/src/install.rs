@@ -142,7 +142,7 @@ fn install_messages() {
     for goal in ["lib", "bin", "test", "check"] {
         assert!(scratch.refusal(["-W", "crates.txt", goal]).starts_with(&(wanted.clone() + "none.\n")));
     }
-    let other = Scratch::new("install-other", "echo other kit");
+    let other = Scratch::new("install-other", "[ $1 = version ] && echo other kit");
     assert!(other.refusal(["-W", "crates.txt", "lib"]).starts_with(&(wanted + "other kit.\n")));
     for (prefix, says) in [("", "PREFIX is empty."), ("/a\"b", "PREFIX has a character that ")] {
         let refusal = scratch.refusal(["install", &format!("PREFIX={prefix}"), "DESTDIR=/nowhere"]);
