@@ -1,7 +1,6 @@
 -- One byte more of a text, and the whole of it. Defined: readerAt, Filled. Proved, in order: step-reader,
--- numbers-length,
--- numbers-append, numbers-take, filled-none, filled-more, step-filled; passed-count; scan-dead, scan-whole, listed;
--- start-reader, start-filled.
+-- numbers-length, numbers-append, numbers-take, filled-none, filled-more, step-filled; run-reader, run-filled (decimals
+-- at once); passed-count; scan-dead, scan-whole, listed; start-reader, start-filled.
 use mathlib.Core.Path.{_≡_, refl, sym, ap, _∙_}
 use mathlib.Core.Bool.{Bool, true, false, not, cond, _&&_}
 use mathlib.Core.List.{List, [], _∷_, _++_, append-assoc}
@@ -23,6 +22,9 @@ use Rattle.positions.specs.Text.{start, read}
 use Rattle.angles.specs.declared.point.Position.{Position}
 use Rattle.positions.specs.declared.ring.Ring.{Ring}
 use Rattle.positions.specs.Number.{Walk, fresh, pendingOf, isEnd, positionOf, stepped, walked, positionsOf, held}
+use Rattle.positions.specs.Number.{onward, DigitRun}
+use Rattle.positions.specs.declared.number.Pending.{Pending}
+use Rattle.positions.proofs.Runs.{run-walked}
 use Rattle.positions.specs.Ring.{addedOf, checkOf, isSame, ringCheck, keptOf, firstOf, lastOf, lastAfter}
 use Rattle.positions.specs.Ring.{firstOutside, firstDistant}
 use Rattle.positions.proofs.RingLaws.{ringOf, ring-snoc, check-of-ring}
@@ -147,6 +149,20 @@ step-filled text i out f =
         (record { pending = pendingOf held (w .pending) b; done = w .done })) .done)
     go w b true f = filled-more out (w .done) (positionOf (w .pending)) f
     go w b false f = f
+
+-- ---- decimals at once
+
+pub run-reader : (text : List ℕ) (i k : ℕ) (r : Reader) (p : Pending) → DigitRun text i k → r ≡ readerAt text i →
+    p ≡ onward text i (r .pending) k → record { pending = p; ring = r .ring } ≡ readerAt text (i + k)
+run-reader text i k r p d e f =
+    let w = run-walked text i k d in
+    ap (λ (q : Pending). record { pending = q; ring = r .ring }) f
+    ∙ ap (λ (q : Reader). record { pending = onward text i (q .pending) k; ring = q .ring }) e
+    ∙ ap (λ (q : Walk). record { pending = q .pending; ring = ringOf (q .done) }) (sym w)
+
+pub run-filled : (text : List ℕ) (i k : ℕ) (out : List ℤ) → DigitRun text i k → Filled out (walked held text i .done) →
+    Filled out (walked held text (i + k) .done)
+run-filled text i k out d f = rw (run-walked text i k d) f
 
 -- ---- the end
 

@@ -1,7 +1,6 @@
 -- Document 02, P7: importing. Defined, in order: onCoarse, coarseWriteOf, coarseWrittenTo; importOf (the answer),
 -- unlessRefused, importedTo (the buffer after the call). Both are writing's, of the vertices that the text's positions
--- have, on the coarse grid and with no
--- second point.
+-- have, on the coarse grid and with no second point.
 use mathlib.Core.List.{List}
 use Prim.Native.Nat.{ℕ}
 use lib.IntN.{ℤ}

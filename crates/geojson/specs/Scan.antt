@@ -1,9 +1,9 @@
 -- Document 02, P7: 30 to 33 of a text, and its list of grid numbers. Defined, in order: textCheck (30), importCheck (30
--- to 33), verticesOf; putOf, startOf, stepOf, outOf, finishOf, scannedOf, Listed (the code's).
+-- to 33), verticesOf; putOf, startOf, stepOf, outOf, finishOf, scannedOf, Listed, Past (the code's).
 use mathlib.Core.Path.{_≡_}
 use mathlib.Core.Bool.{Bool, cond}
 use mathlib.Core.List.{List, [], _∷_}
-use Prim.Native.Nat.{ℕ, _+_, _-_, _*_, min}
+use Prim.Native.Nat.{ℕ, _+_, _-_, _*_, _<_, min}
 use lib.Dec.{ltb}
 use lib.IntN.{ℤ}
 use lib.ListN.{length, take}
@@ -11,13 +11,17 @@ use lib.Seq.{sets}
 use Rattle.answer.specs.declared.Check.{Check}
 use Rattle.answer.specs.declared.Check.the-variants.{Passed, Failed}
 use Rattle.answer.specs.Chain.{_then_}
+use Rattle.positions.specs.declared.grammar.State.{State}
+use Rattle.positions.specs.declared.number.Pending.{Pending}
 use Rattle.positions.specs.declared.grammar.Reading.{Reading}
 use Rattle.positions.specs.declared.grammar.Reading.the-variants.{Whole, Dead}
 use Rattle.positions.specs.Text.{start, read}
 use Rattle.angles.specs.declared.point.Position.{Position}
 use Rattle.angles.specs.Point.{gridNumbersOf}
 use Rattle.positions.specs.Number.{fresh, pendingOf, isEnd, positionOf, positionsOf, held}
+use Rattle.positions.specs.Number.{onward, DigitRun}
 use Rattle.positions.specs.Ring.{ringCheck, keptOf, emptyRing, addedOf, checkOf}
+use Rattle.geojson.specs.declared.ahead.Reached.{Reached}
 use Rattle.geojson.specs.declared.scan.Reader.{Reader}
 use Rattle.geojson.specs.declared.scan.Scanned.{Scanned}
 use Rattle.geojson.specs.declared.scan.Scanned.the-variants.{Kept, Refused}
@@ -74,3 +78,13 @@ abbrev pub Listed : Scanned → List ℕ → List ℤ → Type 0
 Listed (Refused number place) text out = length out ≡ 12291
 Listed (Kept n) text out =
     (length out ≡ 12291) × (take (min n 4097 * 3) out ≡ take (min n 4097 * 3) (verticesOf text))
+
+-- Past the decimals from the place i, k of them, where the text stands at s and the number read is p.
+pub record Past (text : List ℕ) (i : ℕ) (s : State) (p : Pending) (r : Reached) : Type 0 where
+  pub k : ℕ
+  pub run : DigitRun text i k
+  pub at : r .at ≡ i + k
+  pub pending : r .pending ≡ onward text i p k
+  pub low : r .state .at < 76
+  pub ring : r .state .ring < 29
+  pub reads : read text s i (length text - i) ≡ read text (r .state) (r .at) (length text - r .at)

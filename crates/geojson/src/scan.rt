@@ -1,11 +1,13 @@
 // One pass over a text: refusals 30 to 33, and the grid numbers of the first 4,097 positions.
-// Here, in order: Reader, Scanned, put, start, step, finish, scan_with, scan.
+// Here, in order: Reader, Scanned, put, start, step, finish, resumed, scan_with, scan.
 ghost use mathlib.Core.Path.{_≡_};
 ghost use Prim.Native.Nat.{_+_, _<_, _≤_};
 ghost use lib.ListN.{length};
 ghost use Rattle.positions.specs.Number.{Small};
 ghost use Rattle.positions.specs.Text.{classTable, rows};
 ghost use Rattle.geojson.specs.Scan.{putOf, startOf, stepOf, outOf, finishOf, scannedOf, Listed};
+use crate::ahead::Reached;
+use crate::ahead::ahead;
 use angles::point::GridNumbers;
 use angles::point::Position;
 use angles::point::grid_numbers;
@@ -107,6 +109,17 @@ fn finish(r: Reader) -> Scanned
     }
 }
 
+// With another number that is being read.
+fn resumed(r: Reader, pending: Pending) -> Reader
+    ensures { λ s. ⌜ s ≡ record { pending = pending; ring = r .ring } ⌝ }
+{
+    let ring = r.ring;
+    Reader {
+        pending: pending,
+        ring: ring,
+    }
+}
+
 // The whole text, with the text machine's two tables.
 fn scan_with(classes: &[u64; 256], table: &[u64; 261], text: &[u8], out: &mut [i32]) -> Scanned
     requires { ⌜ (length (now out) ≡ 12291) × (now classes ≡ classTable) × (now table ≡ rows) ⌝ }
@@ -124,7 +137,10 @@ fn scan_with(classes: &[u64; 256], table: &[u64; 261], text: &[u8], out: &mut [i
             return Scanned::Refused(30, i);
         }
         r = step(r, b, out);
-        i += 1;
+        let Reached { at, state, pending } = ahead(text, i + 1, s, r.pending);
+        s = state;
+        r = resumed(r, pending);
+        i = at;
     }
     let at = s.at;
     if at == 37 {

@@ -1,11 +1,12 @@
 -- Document 02, P7: the positions of a text, from its bytes alone. Defined, in order: digitOf, isDigit, fresh,
 -- pendingOf (the number being read, after one byte more), isEnd, positionOf, Walk, stepped, walked (after i bytes);
--- exact, positionsOf; most, held, Small. A number is in ten-millionths of a degree, and has any number of digits before
--- the point. The code holds no more of its size than 200 degrees, so each definition takes what is held of a size:
--- positionsOf has all of it. Which texts can be imported at all is Text's.
+-- exact, positionsOf; most, held, Small, onward, DigitRun. A number is in ten-millionths of a degree, and has any
+-- number of digits before the point. The code holds no more of its size than 200 degrees, so each definition takes what
+-- is held of a size: positionsOf has all of it. Which texts can be imported at all is Text's.
+use mathlib.Core.Path.{_≡_}
 use mathlib.Core.Bool.{Bool, true, false, cond, _&&_}
 use mathlib.Core.List.{List, [], _∷_, _++_}
-use Prim.Native.Nat.{ℕ, zero, suc, _+_, _-_, _*_, _/_, _≤_, min}
+use Prim.Native.Nat.{ℕ, zero, suc, _+_, _-_, _*_, _/_, _≤_, _<_, min}
 use lib.Dec.{eqb, leb}
 use lib.IntN.{ℤ, pos, negℤ}
 use lib.ListN.{length, getD}
@@ -93,3 +94,14 @@ held n = min n most
 pub record Small (p : Pending) : Type 0 where
   pub size : p .size ≤ 2000000000
   pub unit : p .unit ≤ 10000000
+
+-- After k bytes more from the place i, none of which ends a position.
+unfoldable pub onward : List ℕ → ℕ → Pending → ℕ → Pending
+onward text i p zero = p
+onward text i p (suc k) = pendingOf held (onward text i p k) (getD text (i + k) 0)
+
+-- The k bytes from the place i, at most seven, are digits.
+pub record DigitRun (text : List ℕ) (i k : ℕ) : Type 0 where
+  pub inside : i + k ≤ length text
+  pub few : k ≤ 7
+  pub each : (j : ℕ) → j < k → isDigit (getD text (i + j) 0) ≡ true

@@ -1,7 +1,7 @@
 -- Document 02, P7: the texts that can be imported, one object with the members `type` and `coordinates` in either
 -- order, and in it one ring. Defined, in order: words, gaps (the two texts around the ring), classOf, classTable
 -- (classes of bytes), rows (the ring), dead, pick, ringNext, literal, nextOf (one byte more), start, read (a whole
--- text); isDecimal (the code's). Claims: what read calls dead is no text's beginning, and what comes before it is.
+-- text); isPoint (the code's). Claims: what read calls dead is no text's beginning, and what comes before it is.
 use mathlib.Core.Bool.{Bool, true, false, cond, _&&_, _||_}
 use mathlib.Core.List.{List, [], _∷_}
 use Prim.Native.Nat.{ℕ, zero, suc, _+_, _-_, _*_, _/_, _%_, _<_}
@@ -128,6 +128,6 @@ read l s i zero = pickReading (eqb (s .at) 37) Whole (pickReading (eqb (s .at) 7
 read l s i (suc k) =
     pickReading (eqb (nextOf s (getD l i 0) .at) 76) (Dead i) (read l (nextOf s (getD l i 0)) (suc i) k)
 
--- ---- the code's: a digit after a decimal that is not the seventh
-unfoldable pub isDecimal : ℕ → ℕ → Bool
-isDecimal ring b = (leb 48 b && leb b 57) && ((leb 8 ring && leb ring 13) || (leb 21 ring && leb ring 26))
+-- ---- the code's: after a number's point, of a longitude or of a latitude
+unfoldable pub isPoint : State → Bool
+isPoint s = eqb (getD words (s .at) 0) 256 && (eqb (s .ring) 7 || eqb (s .ring) 20)

@@ -1,11 +1,12 @@
-// Which texts a GeoJSON polygon can be, one byte after the other. Here, in order: State, Reading, class_table, ring_table,
-// class_of, wide, word_at, gap_at, row_at, ring_next, literal_next, is_ring, is_decimal, next. The texts and the ring's
-// states are tables.
+// Which texts a GeoJSON polygon can be, one byte after the other. Here, in order: State, Reading, class_table,
+// ring_table, class_of, wide, word_at, gap_at, row_at, ring_next, literal_next, is_ring, is_point, next. The texts and
+// the ring's states are tables.
 ghost use mathlib.Core.Path.{_≡_};
 ghost use Prim.Native.Nat.{ℕ, _+_, _*_, _/_, _≤_, _<_};
 ghost use lib.Dec.{eqb};
 ghost use lib.ListN.{getD};
-ghost use Rattle.positions.specs.Text.{words, gaps, rows, classTable, classOf, nextOf, ringNext, literal, isDecimal};
+ghost use Rattle.positions.specs.Text.{words, gaps, rows, classTable, classOf, nextOf, ringNext};
+ghost use Rattle.positions.specs.Text.{literal, isPoint};
 use crate::tables::CLASSES;
 use crate::tables::GAPS;
 use crate::tables::RING;
@@ -21,7 +22,8 @@ pub enum Reading {
     Dead(usize),
 }
 
-// The two large tables. A constant is laid out anew wherever it is named, so a caller has them laid out once and lends them.
+// The two large tables. A constant is laid out anew wherever it is named, so a caller has them laid out once and lends
+// them.
 pub fn class_table() -> [u64; 256]
     ensures { λ r. ⌜ r ≡ classTable ⌝ }
 {
@@ -116,26 +118,18 @@ fn is_ring(at: u64) -> bool
     at == 55
 }
 
-// A digit after a decimal that is not the seventh. Most bytes of a text are such, and need no table.
-fn is_decimal(ring: u64, b: u8) -> bool
-    ensures { λ r. ⌜ r ≡ isDecimal ring b ⌝ }
+// After a number's point, where up to seven decimals follow.
+pub fn is_point(s: State) -> bool
+    requires { ⌜ s .at < 76 ⌝ }
+    ensures { λ r. ⌜ r ≡ isPoint s ⌝ }
 {
-    if b < 48 {
-        return false;
+    if is_ring(s.at) {
+        if s.ring == 7 {
+            return true;
+        }
+        return s.ring == 20;
     }
-    if 57 < b {
-        return false;
-    }
-    if ring < 8 {
-        return false;
-    }
-    if ring <= 13 {
-        return true;
-    }
-    if ring < 21 {
-        return false;
-    }
-    ring <= 26
+    false
 }
 
 pub fn next(classes: &[u64; 256], ring: &[u64; 261], s: State, byte: u8) -> State
@@ -143,12 +137,6 @@ pub fn next(classes: &[u64; 256], ring: &[u64; 261], s: State, byte: u8) -> Stat
     ensures { λ r. ⌜ r ≡ nextOf s byte ⌝ }
 {
     if is_ring(s.at) {
-        if is_decimal(s.ring, byte) {
-            return State {
-                at: s.at,
-                ring: s.ring + 1,
-            };
-        }
         return ring_next(ring, s, class_of(classes, byte));
     }
     literal_next(s, wide(byte), class_of(classes, byte))

@@ -13,6 +13,7 @@ use Rattle.positions.specs.Number.{walked, held}
 use Rattle.positions.proofs.RingLaws.{small-walked, done-length}
 use Rattle.geojson.specs.Scan.{stepOf, outOf, finishOf}
 use Rattle.geojson.proofs.Laws.{readerAt, Filled, start-reader, start-filled, step-reader, step-filled}
+use Rattle.geojson.proofs.Laws.{run-reader, run-filled}
 use Rattle.geojson.proofs.Laws.{scan-dead, scan-whole, listed}
 use Rattle.geojson.proofs.scan.scan_with.Statement.{statement}
 use Rattle.geojson.proofs.scan.scan_with.Tie as tie
@@ -81,30 +82,75 @@ small : (c : tie.After-step-arg Inv-loop μ-loop) →
     c .before .before .before .before .before .loop .i + 1 ≤ 18446744073709551615
 small c = omega arith
 
-add-i : tie.Need-add-i Inv-loop μ-loop
-add-i c = let h = small (c .before .before) in record { fits = omega (arith, h) }
+add-ahead : tie.Need-add-ahead Inv-loop μ-loop
+add-ahead c = let h = small (c .before .before) in record { fits = omega (arith, h) }
+
+-- After the byte: the text goes on, and the code keeps what one byte more has.
+next-on : (a : tie.After-out Inv-loop μ-loop) →
+    nextOf (a .before .before .before .before .before .before .before .loop .s)
+    (getD (a .before .before .before .before .before .before .before .before .before .before .args .text .now)
+    (a .before .before .before .before .before .before .before .loop .i) 0) .at
+    ≡ 76 → ⊥
+next-on a w =
+    a .before .before .before .if1 .left (ap (λ z. z .at) (a .before .before .before .before .next .ensures) ∙ w)
+
+next-state : (a : tie.After-out Inv-loop μ-loop) →
+    (a .before .before .before .before .next .result .at < 76)
+    × (a .before .before .before .before .next .result .ring < 29)
+next-state a =
+    let v = a .before .before .before .before .before .before .before .loop in
+    let l = a .before .before .before .before .before .before .before .before .before .before .args .text .now in
+    let k = next-ok (v .s) (getD l (v .i) 0) (v .inv .1) (v .inv .2) in
+    rw (a .before .before .before .before .next .ensures) (lt-of-le-ne (k .at) (next-on a), k .ring)
+
+next-reader : (a : tie.After-out Inv-loop μ-loop) →
+    a .before .step .result
+    ≡ readerAt (a .before .before .before .before .before .before .before .before .before .before .args .text .now)
+    (suc (a .before .before .before .before .before .before .before .loop .i))
+next-reader a =
+    let l = a .before .before .before .before .before .before .before .before .before .before .args .text .now in
+    let v = a .before .before .before .before .before .before .before .loop in
+    a .before .step .ensures .0 ∙ ap (λ z. stepOf z (getD l (v .i) 0)) (v .inv .4) ∙ step-reader l (v .i)
+
+ahead-requires : tie.Need-ahead-requires Inv-loop μ-loop
+ahead-requires c κs =
+    let l = c .before .before .before .before .before .before .before .before .before .before .args .text .now in
+    let v = c .before .before .before .before .before .before .before .loop in
+    let h = c .before .before .before .before .before .before .loop-test .taken in
+    (omega arith, next-state c .0, next-state c .1, rw (next-reader c) (small-walked l (suc (v .i))))
+
+resumed-requires : tie.Need-resumed-requires Inv-loop μ-loop
+resumed-requires c κs = search needs
 
 loop-less : tie.Need-loop-less Inv-loop μ-loop
-loop-less c = search needs
+loop-less c =
+    let t = c .before .before .before .ahead .ensures .at in
+    let h = c .before .before .before .ahead .ensures .run .inside in
+    search needs
 
 loop-again : tie.Need-loop-again Inv-loop μ-loop
 loop-again c =
-    let l = c .before .before .before .before .before .before .before .before .before .before .args .text .now in
-    let v = c .before .before .before .before .before .before .before .loop in
+    let a = c .before .before .before .before in
+    let l = a .before .before .before .before .before .before .before .before .before .before .args .text .now in
+    let v = a .before .before .before .before .before .before .before .loop in
     let b = getD l (v .i) 0 in
-    let e = c .before .before .before .before .next .ensures in
-    let k = next-ok (v .s) b (v .inv .1) (v .inv .2) in
     let j : v .i + 1 ≡ suc (v .i) = omega arith in
-    let alive : nextOf (v .s) b .at ≡ 76 → ⊥ = λ w. c .before .before .before .if1 .left (ap (λ z. z .at) e ∙ w) in
+    let q = rw j at (c .before .before .before .ahead .ensures) in
+    let t = q .at in
+    let h = q .run .inside in
+    let n = c .before .before .before .ahead .result in
     let f : Filled (outOf (v .r) b (v .out)) (walked held l (suc (v .i)) .done) =
     rw (v .inv .4) (step-filled l (v .i) (v .out) (v .inv .5)) in
-    rw (e, j) (
+    let on = sym (read-on l (v .s) (v .i) (length l) (omega arith) (next-on a)) ∙ v .inv .3 in (
       omega arith,
-      lt-of-le-ne (k .at) alive,
-      k .ring,
-      sym (read-on l (v .s) (v .i) (length l) (omega arith) alive) ∙ v .inv .3,
-      c .before .step .ensures .0 ∙ ap (λ z. stepOf z b) (v .inv .4) ∙ step-reader l (v .i),
-      rw (c .before .step .ensures .1) f,
+      q .low,
+      q .ring,
+      sym (q .reads) ∙ rw (a .before .before .before .before .next .ensures) on,
+      c .resumed .ensures
+          ∙ run-reader l (suc (v .i)) (q .k) (a .before .step .result) (n .pending) (q .run)
+          (next-reader a) (q .pending)
+          ∙ ap (readerAt l) (sym t),
+      rw (t, a .before .step .ensures .1) (run-filled l (suc (v .i)) (q .k) _ (q .run) f),
     )
 
 finish-requires : tie.Need-finish-requires Inv-loop μ-loop
@@ -172,7 +218,9 @@ scan-with-spec =
     same-length
     returns
     step-requires
-    add-i
+    add-ahead
+    ahead-requires
+    resumed-requires
     loop-less
     loop-again
     finish-requires

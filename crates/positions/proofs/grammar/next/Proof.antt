@@ -1,8 +1,6 @@
 -- `grammar::next` meets its contract.
-use mathlib.Core.Path.{_≡_, sym, ap, _∙_}
-use Prim.Native.Nat.{_<_}
+use mathlib.Core.Path.{_≡_, sym, _∙_}
 use Rattle.positions.specs.Text.{nextOf}
-use Rattle.positions.proofs.Decimals.{decimal-next, decimal-small}
 use borrow.Author.Needs.{needs}
 use Rattle.positions.proofs.grammar.next.Statement.{statement}
 use Rattle.positions.proofs.grammar.next.Tie as tie
@@ -10,31 +8,16 @@ use Rattle.positions.proofs.grammar.next.Tie as tie
 is-ring-requires : tie.Need-is-ring-requires
 is-ring-requires c κs = search needs
 
-is-decimal-requires : tie.Need-is-decimal-requires
-is-decimal-requires c κs = search needs
-
-add-t7 : tie.Need-add-t7
-add-t7 c = search needs
-
-returns : tie.Need-returns
-returns c =
-    let d = c .before .before in
-    let i = d .before .before .before in
-    let e = sym (d .is-decimal .ensures) ∙ c .before .if2 .taken in
-    let h : i .args .byte < 256 = search needs in
-    decimal-next (i .args .s) (i .args .byte) (decimal-small _ _ e) h
-    (sym (d .before .before .is-ring .ensures) ∙ d .before .if1 .taken) e
-
 class-of-requires : tie.Need-class-of-requires
 class-of-requires c κs = search needs
 
 ring-next-requires : tie.Need-ring-next-requires
 ring-next-requires c κs = search needs
 
-returns-2 : tie.Need-returns-2
+returns : tie.Need-returns
 unfolding nextOf
-returns-2 c =
-    let j = c .before .before .before .before in
+returns c =
+    let j = c .before .before in
     c .ring-next .ensures
     ∙ rw (sym (j .before .is-ring .ensures) ∙ j .if1 .taken, c .before .class-of .ensures .0)
 
@@ -47,9 +30,9 @@ class-of-requires-2 c κs = search needs
 literal-next-requires : tie.Need-literal-next-requires
 literal-next-requires c κs = search needs
 
-returns-3 : tie.Need-returns-3
+returns-2 : tie.Need-returns-2
 unfolding nextOf
-returns-3 c =
+returns-2 c =
     let j = c .before .before .before in
     c .literal-next .ensures
     ∙ rw (
@@ -63,13 +46,10 @@ next-spec =
     tie.close
     (tie.spec
     is-ring-requires
-    is-decimal-requires
-    add-t7
-    returns
     class-of-requires
     ring-next-requires
-    returns-2
+    returns
     wide-requires
     class-of-requires-2
     literal-next-requires
-    returns-3)
+    returns-2)
