@@ -7,8 +7,7 @@ ghost use lib.Ieee.Exact.{HasValue};
 ghost use Rattle.angles.specs.Angle.{one, cosWhole, sinWhole, gridOf};
 ghost use Rattle.angles.specs.Float.{Sized, sizeOf};
 use crate::series::ONE;
-use crate::series::cosine_series;
-use crate::series::sine_series;
+use crate::series::series;
 
 // Document 02: sine and cosine of one angle travel together.
 pub struct SinCos {
@@ -42,11 +41,11 @@ pub(crate) fn sin_cos(t: u64) -> SinCos
     if t < 900000000 {
         let square = t * t / 4891762658;
         let arc = t * 1073741824 / 9167324722;
-        let s = arc * sine_series(square) / ONE;
-        let c = cosine_series(square);
+        let h = series(square);
+        let s = arc * h.sin / ONE;
         SinCos {
             sin: unit(s),
-            cos: unit(c),
+            cos: unit(h.cos),
         }
     } else {
         SinCos { sin: 1.0, cos: 0.0 }

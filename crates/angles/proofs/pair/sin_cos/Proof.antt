@@ -26,24 +26,21 @@ mul-square c = let t =
 mul-arc : tie.Need-mul-arc
 mul-arc c = search needs
 
-sine-series-requires : tie.Need-sine-series-requires
-sine-series-requires c κs = let h = square-le (c .before .args .t) (c .before .pre) in omega arith
+series-requires : tie.Need-series-requires
+series-requires c κs = let h = square-le (c .before .args .t) (c .before .pre) in omega arith
 
 mul-s : tie.Need-mul-s
 mul-s c =
-    let s = c .before .before in
-    let h : arc (s .args .t) * c .sine-series .result ≤ 105414358 * 67108864 =
-    mul-le-mul (arc-le (s .args .t) (s .pre)) (c .sine-series .ensures .1) in
+    let s = c .before .before .before in
+    let h : arc (s .args .t) * c .before .series .result .sin ≤ 105414358 * 67108864 =
+    mul-le-mul (arc-le (s .args .t) (s .pre)) (c .before .series .ensures .0 .1) in
     omega arith
-
-cosine-series-requires : tie.Need-cosine-series-requires
-cosine-series-requires c κs = let h = square-le (c .before .before .args .t) (c .before .before .pre) in omega arith
 
 unit-requires : tie.Need-unit-requires
 unit-requires c κs =
     let s = c .before .before .before in
-    quotient-le (arc (s .args .t)) (c .before .sine-series .result) (arc-le (s .args .t) (s .pre))
-    (c .before .sine-series .ensures .1)
+    quotient-le (arc (s .args .t)) (c .before .series .result .sin) (arc-le (s .args .t) (s .pre))
+    (c .before .series .ensures .0 .1)
 
 unit-requires-2 : tie.Need-unit-requires-2
 unit-requires-2 c κs = search needs
@@ -54,8 +51,8 @@ returns c =
     let t = s .args .t in
     rw (lt-ltb t 900000000 (c .before .before .before .before .if1 .taken)) (
       subst (λ (y : ℕ). HasValue (c .before .unit .result) false (arc t * y / 67108864) 67108864)
-          (c .before .before .before .sine-series .ensures .0) (c .before .unit .ensures),
-      subst (λ (y : ℕ). HasValue (c .unit2 .result) false y 67108864) (c .before .before .cosine-series .ensures)
+          (c .before .before .before .series .ensures .0 .0) (c .before .unit .ensures),
+      subst (λ (y : ℕ). HasValue (c .unit2 .result) false y 67108864) (c .before .before .before .series .ensures .1)
           (c .unit2 .ensures),
     )
 
@@ -68,9 +65,8 @@ sin-cos-spec =
     (tie.spec
     mul-square
     mul-arc
-    sine-series-requires
+    series-requires
     mul-s
-    cosine-series-requires
     unit-requires
     unit-requires-2
     returns
