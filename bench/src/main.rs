@@ -1,7 +1,6 @@
 //! The library against document 02's P2 in checked Rust and in C: one call, the program, a feed on each grid; the basin
-//! profile and an import against C; a book against single calls on its sheets; and the dearest queries. The contestants
-//! take turns, and the least time of many rounds counts. Prints tables, and draws the times of feeds as
-//! docs/feed-time.svg.
+//! profile and an import against C; and a book against single calls on its sheets. The contestants take turns, and the
+//! least time of many rounds counts. Prints tables, and draws the times of feeds as docs/feed-time.svg.
 //!
 //! Started with a folder and a contestant it makes one feed call, one of the basin profile, one import, or asks one
 //! book: what `instructions` counts.
