@@ -4,7 +4,8 @@
  *     which_harbour BOOK GRID STOPS
  *
  * BOOK is up to 64 zone sheets joined end to end. GRID is the grid of the stops, 0 for the coarse one and 1 for the
- * fine one: harbours on the other are left out. STOPS is a text with one stop a line: `x y z name`.
+ * fine one: harbours on the other are left out. STOPS is a text with one stop a line: `x y z name`. (A harbour that is
+ * refused is told whatever its grid.)
  *
  * Prints for each stop the zone numbers of the harbours that it is inside of, and of those on whose boundary it is; a
  * stop that is in none has an empty list. What was refused, and why, goes to standard error: the book (then no stop is

@@ -50,6 +50,10 @@ fn which_harbour_refused() {
     let book = [zone(8, on_circle), zone(9, octant())].concat();
     let refused = "refused: harbour, zone 8: known point on the great circle of a side (16)\n";
     example.look_up(&book, "0", "3 2 1 Lighthouse\n", 1, "Lighthouse: inside 9\n", refused);
+    // On the other grid too: a sheet that is refused hands out no grid.
+    let fine = zone(8, Sheet { known: [1, -1, 0], ..octant() }.on(Grid::Fine));
+    let mixed = [fine, zone(9, octant())].concat();
+    example.look_up(&mixed, "0", "3 2 1 Lighthouse\n", 1, "Lighthouse: inside 9\n", refused);
     let cut = "refused: book: sheet cut short (20), byte 99\n";
     example.look_up(&book[..137], "0", "3 2 1 Lighthouse\n", 1, "", cut);
     let long = octant().bytes().repeat(65);
