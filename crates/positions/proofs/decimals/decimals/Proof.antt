@@ -22,7 +22,7 @@ abbrev Inv-loop : tie.InvT-loop
 Inv-loop text from p₀ k₀ p k = Small p × DigitRun text from k × (p ≡ onward text from p₀ k)
 
 abbrev μ-loop : tie.MeasureT-loop
-μ-loop text from p₀ k₀ p k = 7 - k
+μ-loop text from p₀ k₀ p k = length text - (from + k)
 
 loop-holds : tie.Need-loop-holds Inv-loop μ-loop
 unfolding onward
@@ -72,8 +72,15 @@ next-requires c κs = c .before .before .before .before .loop .inv .0
 add-k : tie.Need-add-k Inv-loop μ-loop
 add-k c = search needs
 
+-- One byte more, one byte less to read.
+less : (n i k : ℕ) → i + k < n → n - (i + (k + 1)) < n - (i + k)
+less n i k h = omega arith
+
 loop-less : tie.Need-loop-less Inv-loop μ-loop
-loop-less c = search needs
+loop-less c =
+    let m = both-true _ _
+    (sym (c .before .before .before .is-more .ensures) ∙ not-false _ (c .before .before .if1 .left)) in
+    less _ _ _ (ltb-true _ _ (m .0))
 
 loop-again : tie.Need-loop-again Inv-loop μ-loop
 unfolding onward
