@@ -73,7 +73,7 @@ impl Lines {
     }
 
     fn imported(&mut self, text: &[u8], name: &[u8], room: usize) {
-        let given = Given { name: name.to_vec(), known: [1_048_576, 9_000, 7_000], ..given() };
+        let given = Given { name, known: [1_048_576, 9_000, 7_000], ..given() };
         let answer = reference::import(text, &given, room, point).0;
         self.answer("import", answer);
         self.answer("whole", answer);
