@@ -1,5 +1,5 @@
 // Document 01's lines 10 to 18, each as its own check, and their order.
-// Here, in order: list_check (10); Line, line_number, refuses, line_check (11 to 14, by one loop);
+// Here, in order: list_check (10); Line, line_number, refuses, line_check (11 to 14 and 16, by one loop);
 // reference_check (15), circle_check (16), query_check (17), far_check (18); polygon_check (10 to 14); accepts,
 // is_accepted, accept_check (10 to 16). Each check of the list passes over it once. Those after line 12 rest on the
 // grid.
@@ -42,12 +42,15 @@ pub fn list_check(vertices: &[i32]) -> Check
     Check::Passed
 }
 
-// A line of the polygon alone that each vertex, or each edge, has to pass: 11 to 14.
+// A line that each vertex, or each edge, has to pass: 11 to 14, and 16 with the reference point. That has a case for
+// each grid, so that the compiled loop does not ask for the grid at every edge.
 enum Line {
     Beyond,
     Null,
     Same,
     Antipodal,
+    CoarseCircle(Point),
+    FineCircle(Point),
 }
 
 fn line_number(line: Line) -> u32
@@ -58,20 +61,33 @@ fn line_number(line: Line) -> u32
         Line::Null => 12,
         Line::Same => 13,
         Line::Antipodal => 14,
+        Line::CoarseCircle(_) => 16,
+        Line::FineCircle(_) => 16,
     }
 }
 
-// The line refuses vertex i, or edge i.
+// The line refuses vertex i, or edge i. Each case reads what it asks for: what they shared, every loop would repeat.
 fn refuses(line: Line, grid: Grid, vertices: &[i32], i: usize) -> bool
     requires { ⌜ (i < vertexCount (now vertices)) × Ready line (limitOf grid) (now vertices) ⌝ }
     ensures { λ r. ⌜ r ≡ isRefused line (limitOf grid) (now (vertices .entry)) i ⌝ }
 {
-    let a = vertex_at(vertices, i);
     match line {
-        Line::Beyond => is_beyond(grid, a),
-        Line::Null => is_null(a),
-        Line::Same => same_direction(a, end_of(vertices, i)),
-        Line::Antipodal => antipodal(a, end_of(vertices, i)),
+        Line::Beyond => is_beyond(grid, vertex_at(vertices, i)),
+        Line::Null => is_null(vertex_at(vertices, i)),
+        Line::Same => same_direction(vertex_at(vertices, i), end_of(vertices, i)),
+        Line::Antipodal => antipodal(vertex_at(vertices, i), end_of(vertices, i)),
+        Line::CoarseCircle(known) => on_circle(
+            Grid::Coarse,
+            vertex_at(vertices, i),
+            end_of(vertices, i),
+            known,
+        ),
+        Line::FineCircle(known) => on_circle(
+            Grid::Fine,
+            vertex_at(vertices, i),
+            end_of(vertices, i),
+            known,
+        ),
     }
 }
 
@@ -95,22 +111,15 @@ pub fn reference_check(grid: Grid, known: Point) -> Check
     fails_if(15, is_off_grid(grid, known))
 }
 
-// The reference point on the great circle of an edge. A loop of its own that carries each edge's start on: as one more
-// line of `line_check` its compiled code would ask for the grid at every edge.
+// The reference point on the great circle of an edge.
 fn circle_check(grid: Grid, vertices: &[i32], known: Point) -> Check
     requires { ⌜ Listed (now vertices) × Gridded (limitOf grid) (now vertices) × Within (limitOf grid) known ⌝ }
     ensures { λ r. ⌜ r ≡ circleCheck (now (vertices .entry)) known ⌝ }
 {
-    let n = vertices.len() / 3;
-    let mut a = vertex_at(vertices, 0);
-    for i in 0..n {
-        let b = end_of(vertices, i);
-        if on_circle(grid, a, b, known) {
-            return Check::Failed(16, i);
-        }
-        a = b;
+    match grid {
+        Grid::Coarse => line_check(Line::CoarseCircle(known), grid, vertices),
+        Grid::Fine => line_check(Line::FineCircle(known), grid, vertices),
     }
-    Check::Passed
 }
 
 pub fn query_check(grid: Grid, query: Point) -> Check
