@@ -61,7 +61,7 @@ fn test_edge(vertices: &[i32], boxes: &[i32], arc: Arc, near: Near) -> EdgeTest
 }
 
 // What an edge adds to the count, by the way in which it is crossed.
-fn counted(way: i32) -> u32
+pub fn counted(way: i32) -> u32
     ensures { λ r. ⌜ r ≡ cond (isZero (signOf way)) 0 1 ⌝ }
 {
     if way == 0 {
@@ -76,7 +76,7 @@ pub enum Tally {
     Crossed(u32, i32),
 }
 
-fn tally_by(found: Found, crossed: u32, sum: i32) -> Tally
+pub fn tally_by(found: Found, crossed: u32, sum: i32) -> Tally
     ensures { λ r. ⌜ r ≡ tallyBy found crossed sum ⌝ }
 {
     match found {

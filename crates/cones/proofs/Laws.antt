@@ -1,0 +1,6 @@
+-- Laws of the definitions of specs/, a file for each topic.
+pub mod Plane
+pub mod Covers
+pub mod Coincident
+pub mod Halved
+pub mod Rays

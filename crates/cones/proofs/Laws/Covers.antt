@@ -1,0 +1,142 @@
+-- Lists that are complete. Defined: AtEntry, Walked. Proved, in order: covers-least, covers-map, covers-same, covers-at
+-- (an entry), entries; walk-start, walk-step, walk-held (a walk over a complete list says what a walk over all edges
+-- says); kept-least, kept-same, kept-whole, kept-covers (what is kept of a complete list is complete).
+use mathlib.Core.Path.{_≡_, refl, sym, _∙_, ap, subst}
+use mathlib.Core.Bool.{Bool, true, false}
+use mathlib.Core.List.{List}
+use mathlib.Core.Logic.{⊎-elim}
+use Prim.Native.Nat.{ℕ, zero, suc, _+_, _-_, _≤_, _<_}
+use native.Mathlib.Nat.{eq-or-lt-of-le}
+use native.Mathlib.Omega.{arith}
+use lib.IntN.{ℤ, pos, _+ℤ_}
+use lib.ListN.{getD}
+use Rattle.sphere.specs.declared.point.Point.{Point}
+use Rattle.search.specs.declared.walk.Tally.the-variants.{Held, Crossed}
+use Rattle.search.specs.Walk.{tallyFrom}
+use Rattle.search.proofs.Laws.Tally.{Tallied, tallied-start, tallied-block, tallied-none, tallied-held, test-way}
+use Rattle.cones.specs.Cones.{Idle, Covers, none, pass, keep}
+use Rattle.cones.specs.Lists.{Entries, Kept, begin, drop, copy}
+
+-- ---- a complete list
+pub record AtEntry (I : ℕ → Type 0) (l : List ℕ) (a n e : ℕ) : Type 0 where
+  pub before : Covers I l a (getD l e 0) e
+  pub below : getD l e 0 < n
+
+module _ {I : ℕ → Type 0} {l : List ℕ} {a : ℕ} where
+  pub covers-least : {i b : ℕ} → Covers I l a i b → a ≤ b
+  covers-least none = omega arith
+  covers-least (pass c h) = covers-least c
+  covers-least (keep {i} {b} c h) = omega (arith, covers-least c)
+
+  pub covers-map : {J : ℕ → Type 0} → ((j : ℕ) → I j → J j) → {i b : ℕ} → Covers I l a i b → Covers J l a i b
+  covers-map f none = none
+  covers-map f (pass {i} c h) = pass (covers-map f c) (f i h)
+  covers-map f (keep c h) = keep (covers-map f c) h
+
+  -- only the entries from a on before b are read
+  pub covers-same : {m : List ℕ} {i b : ℕ} → ((x : ℕ) → a ≤ x → x < b → getD m x 0 ≡ getD l x 0) →
+      Covers I l a i b → Covers I m a i b
+  covers-same same none = none
+  covers-same same (pass c h) = pass (covers-same same c) h
+  covers-same same (keep {i} {b} c h) =
+      keep (covers-same (λ x k t. same x k (omega arith)) c) (same b (covers-least c) (omega arith) ∙ h)
+
+  pub covers-at : {n b : ℕ} → Covers I l a n b → (e : ℕ) → a ≤ e → e < b → AtEntry I l a n e
+  covers-at none e h k = absurd (omega arith)
+  covers-at (pass c p) e h k =
+      let r = covers-at c e h k in record { before = r .before; below = omega (arith, r .below) }
+  covers-at (keep {i} {b} c p) e h k = ⊎-elim
+      (λ same. record {
+        before = subst (λ j. Covers I l a j e) (sym (ap (λ x. getD l x 0) same ∙ p))
+            (subst (λ x. Covers I l a i x) (sym same) c);
+        below = omega (arith, ap (λ x. getD l x 0) same ∙ p);
+      })
+      (λ less. let r = covers-at c e h less in record { before = r .before; below = omega (arith, r .below) })
+      (eq-or-lt-of-le {n = e} {m = b} (omega arith))
+
+  pub entries : {n b : ℕ} → Covers I l a n b → Entries n l a b
+  entries c = record { each = λ e h k. covers-at c e h k .below }
+
+-- ---- a walk over it: before entry e, what is tallied of all edges that the entries before it cover
+pub record Walked (vs : List ℤ) (X P : Point) (l : List ℕ) (a e c : ℕ) (s : ℤ) : Type 0 where
+  pub tallied : (i : ℕ) → Covers (Idle vs X P) l a i e → Tallied vs X P 0 i c s
+
+module _ {vs : List ℤ} {X P : Point} where
+  idle-tally : {i : ℕ} → Idle vs X P i → tallyFrom vs X P i 1 ≡ Crossed 0 (pos 0)
+  idle-tally {i} h = test-way vs X P i {way = pos 0} {c = 0} (rw (h .unheld, h .uncrossed)) refl
+
+  idle-tallied : {i c : ℕ} {s : ℤ} → Tallied vs X P 0 i c s → Idle vs X P i → Tallied vs X P 0 (suc i) c s
+  idle-tallied {i} t h = tallied-none 1 (omega arith) t (suc i) (omega arith) (idle-tally h)
+
+  module _ {l : List ℕ} {a : ℕ} where
+    pub walk-start : Walked vs X P l a a 0 (pos 0)
+    walk-start = record { tallied = λ i c. go c refl }
+      where
+        go : {i b : ℕ} → Covers (Idle vs X P) l a i b → b ≡ a → Tallied vs X P 0 i 0 (pos 0)
+        go none e = tallied-start 0
+        go (pass c h) e = idle-tallied (go c e) h
+        go (keep c h) e = absurd (omega (arith, covers-least c))
+
+    pub walk-step : {e c d : ℕ} {s t : ℤ} → a ≤ e → Walked vs X P l a e c s →
+        tallyFrom vs X P (getD l e 0) 1 ≡ Crossed d t → Walked vs X P l a (e + 1) (c + d) (s +ℤ t)
+    walk-step {e} {c} {d} {s} {t} h w one = record { tallied = λ i k. go k refl }
+      where
+        go : {i b : ℕ} → Covers (Idle vs X P) l a i b → b ≡ e + 1 → Tallied vs X P 0 i (c + d) (s +ℤ t)
+        go none q = absurd (omega arith)
+        go (pass k p) q = idle-tallied (go k q) p
+        go (keep {i} {b} k p) q =
+            let same : b ≡ e = omega arith in
+            let here : getD l e 0 ≡ i = ap (λ x. getD l x 0) (sym same) ∙ p in
+            let on : i + 1 ≡ suc i = omega arith in
+            subst (λ j. Tallied vs X P 0 j (c + d) (s +ℤ t)) on
+            (tallied-block 1 (omega arith) (w .tallied i (subst (λ x. Covers (Idle vs X P) l a i x) same k))
+            (subst (λ j. tallyFrom vs X P j 1 ≡ Crossed d t) here one))
+
+    pub walk-held : {e n b c : ℕ} {s : ℤ} {edge : ℕ} → a ≤ e → e < b → Covers (Idle vs X P) l a n b →
+        Walked vs X P l a e c s → tallyFrom vs X P (getD l e 0) 1 ≡ Held edge → tallyFrom vs X P 0 (n - 0) ≡ Held edge
+    walk-held {e} {n} h k all w one =
+        let r = covers-at all e h k in
+        tallied-held 1 (omega arith) (w .tallied _ (r .before)) n (omega (arith, r .below)) one
+
+-- ---- what is kept of a list
+module _ {test : ℕ → Bool} {l m : List ℕ} {a c : ℕ} where
+  pub kept-least : {e k : ℕ} → Kept test l m a c e k → (a ≤ e) × (c ≤ k)
+  kept-least begin = (omega arith, omega arith)
+  kept-least (drop {e} {k} s h) = let r = kept-least s in (omega arith, omega arith)
+  kept-least (copy {e} {k} s h) = let r = kept-least s in (omega arith, omega arith)
+
+  pub kept-same : {q : List ℕ} {e k : ℕ} → ((x : ℕ) → c ≤ x → x < k → getD q x 0 ≡ getD m x 0) →
+      Kept test l m a c e k → Kept test l q a c e k
+  kept-same same begin = begin
+  kept-same same (drop s h) = drop (kept-same same s) h
+  kept-same same (copy {e} {k} s h) =
+      copy (kept-same (λ x p t. same x p (omega arith)) s) (same k (kept-least s .1) (omega arith) ∙ h)
+
+  module _ {I J : ℕ → Type 0} (weaker : (j : ℕ) → I j → J j) (n : ℕ) (lost : (j : ℕ) → j < n → test j ≡ true → J j)
+    where
+      pub kept-covers : {i e k : ℕ} → i ≤ n → Kept test l m a c e k → Covers I l a i e → Covers J m c i k
+      kept-covers h s all = go s all h refl
+        where
+          -- by the entries first, and then by the edges
+          go : {i b e k : ℕ} → Kept test l m a c e k → Covers I l a i b → i ≤ n → b ≡ e → Covers J m c i k
+          go s (pass {i} all p) h q = pass (go s all (omega arith) q) (weaker i p)
+          go begin none h q = none
+          go begin (keep {i} {b} all p) h q = absurd (omega (arith, covers-least all))
+          go (drop {e} s t) none h q = absurd (omega (arith, kept-least s .0))
+          go (copy {e} s t) none h q = absurd (omega (arith, kept-least s .0))
+          go (drop {e} s t) (keep {i} {b} all p) h q =
+              let same : b ≡ e = omega arith in
+              pass (go s all (omega arith) same)
+              (lost i (omega arith) (subst (λ j. test j ≡ true) (ap (λ x. getD l x 0) (sym same) ∙ p) t))
+          go (copy {e} {k} s t) (keep {i} {b} all p) h q =
+              let same : b ≡ e = omega arith in
+              keep (go s all (omega arith) same) (t ∙ ap (λ x. getD l x 0) (sym same) ∙ p)
+
+-- the whole list, where it stands
+pub kept-whole : {test : ℕ → Bool} {l m : List ℕ} {a : ℕ} (k : ℕ) →
+    ((x : ℕ) → x < a + k → getD m x 0 ≡ getD l x 0) → Kept test l m a a (a + k) (a + k)
+kept-whole {a = a} zero same = let none : a + 0 ≡ a = omega arith in rw none begin
+kept-whole {test} {l} {m} {a} (suc k) same =
+    let on : suc (a + k) ≡ a + suc k = omega arith in
+    subst (λ e. Kept test l m a a e e) on
+    (copy (kept-whole k (λ x h. same x (omega arith))) (same (a + k) (omega arith)))

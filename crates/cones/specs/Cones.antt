@@ -1,0 +1,42 @@
+-- Cones about the reference point X, and lists of edges that are complete for the queries of a cone: for the code
+-- alone. A ray is a point, of which only the half plane from the line through X matters. Defined, in order: InCone;
+-- Idle (an edge that a query does not notice), IdleIn; Covers, Complete (a list of edges).
+use mathlib.Core.Path.{_≡_}
+use mathlib.Core.Bool.{false}
+use mathlib.Core.List.{List}
+use Prim.Native.Nat.{ℕ, suc, _≤_}
+use lib.IntN.{ℤ, pos}
+use lib.ListN.{length, getD}
+use lib.Signed.{_<ℤ_}
+use Rattle.integers.specs.Sign.{nought}
+use Rattle.sphere.specs.declared.point.Point.{Point}
+use Rattle.sphere.specs.Orientation.{orientationOf}
+use Rattle.sphere.specs.Crossing.{crossingOf}
+use Rattle.polygon.specs.Vertices.{startOf, endOf}
+use Rattle.polygon.specs.Verdict.{isHeldBy}
+
+-- Strictly between the rays lo and hi.
+pub record InCone (X lo hi P : Point) : Type 0 where
+  pub after : pos 0 <ℤ orientationOf X lo P
+  pub before : orientationOf X hi P <ℤ pos 0
+
+-- The arc from X to P does not cross edge j, and P is not on it.
+pub record Idle (vs : List ℤ) (X P : Point) (j : ℕ) : Type 0 where
+  pub uncrossed : crossingOf X P (startOf vs j) (endOf vs j) ≡ nought
+  pub unheld : isHeldBy vs P j ≡ false
+
+-- That of every query in a cone.
+abbrev pub IdleIn : List ℤ → Point → Point → Point → ℕ → Type 0
+IdleIn vs X lo hi j = (P : Point) → InCone X lo hi P → Idle vs X P j
+
+-- Each edge before i is an entry of the list, from entry a on before entry b, in rising order, or I holds of it.
+pub data Covers (I : ℕ → Type 0) (l : List ℕ) (a : ℕ) : ℕ → ℕ → Type 0 where
+  none : Covers I l a 0 a
+  pass : {i b : ℕ} → Covers I l a i b → I i → Covers I l a (suc i) b
+  keep : {i b : ℕ} → Covers I l a i b → getD l b 0 ≡ i → Covers I l a (suc i) (suc b)
+
+-- The entries from a on before b are there, and of n edges only those are left out of which I holds.
+pub record Complete (I : ℕ → Type 0) (n : ℕ) (l : List ℕ) (a b : ℕ) : Type 0 where
+  pub some : a ≤ b
+  pub within : b ≤ length l
+  pub covers : Covers I l a n b

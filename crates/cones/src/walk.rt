@@ -1,0 +1,127 @@
+// The walk over a list of edges that is complete for the query. Here, in order: coincident_listed, is_on_border,
+// test_listed (one edge); walk_list. Edges that join the same two directions hold the same points: those that are
+// coincident with an edge that holds the query are on the list too.
+ghost use mathlib.Core.Path.{_≡_};
+ghost use mathlib.Core.Bool.{false};
+ghost use Prim.Native.Nat.{_<_};
+ghost use Rattle.integers.specs.Sign.{signOf};
+ghost use Rattle.sphere.specs.Point.{fine};
+ghost use Rattle.sphere.specs.Orientation.{orientationOf};
+ghost use Rattle.polygon.specs.Accepted.{Listed, Gridded};
+ghost use Rattle.polygon.specs.Border.{isCoincident, coincidentOf};
+ghost use Rattle.polygon.specs.Vertices.{vertexCount, startOf, endOf};
+ghost use Rattle.polygon.specs.Verdict.{isOnBorder, wayOf};
+ghost use Rattle.search.specs.Arc.{AcceptedArc};
+ghost use Rattle.search.specs.Walk.{testBy, tallyFrom};
+ghost use Rattle.cones.specs.Cones.{Idle, Complete};
+use crate::lists::wide;
+use answer::Found;
+use polygon::border::coincident;
+use polygon::vertices::end_of;
+use polygon::vertices::vertex_at;
+use search::arc::Arc;
+use search::walk::EdgeTest;
+use search::walk::Tally;
+use search::walk::counted;
+use search::walk::tally_by;
+use sphere::crossing::crossing_from;
+use sphere::crossing::is_beside;
+use sphere::edge::on_edge_by;
+use sphere::plane::plane_through;
+use sphere::plane::side_of;
+
+// How many edges join the same two directions as edge i, where all that do are listed.
+fn coincident_listed(vertices: &[i32], list: &[u16], from: usize, to: usize, i: usize) -> u32
+    requires { ⌜ Listed (now vertices) × Gridded fine (now vertices) × (i < vertexCount (now vertices)) ⌝ }
+    requires { ⌜ Complete (λ j. isCoincident (now vertices) (startOf (now vertices) i) (endOf (now vertices) i) j
+        ≡ false) (vertexCount (now vertices)) (now list) from to ⌝ }
+    ensures { λ k. ⌜ k ≡ coincidentOf (now (vertices .entry)) (startOf (now (vertices .entry)) i)
+        (endOf (now (vertices .entry)) i) ⌝ }
+{
+    let a = vertex_at(vertices, i);
+    let b = end_of(vertices, i);
+    let mut count: u32 = 0;
+    for e in from..to {
+        count += coincident(vertices, a, b, wide(list[e]));
+    }
+    count
+}
+
+// Edge i holds the query and is border; by side, which has the sign of the orientation of its ends and the query.
+fn is_on_border(
+    vertices: &[i32],
+    arc: Arc,
+    list: &[u16],
+    from: usize,
+    to: usize,
+    i: usize,
+    side: i64,
+) -> bool
+    requires { ⌜ AcceptedArc (now vertices) arc × (i < vertexCount (now vertices)) ⌝ }
+    requires { ⌜ Complete (Idle (now vertices) (arc .from) (arc .to)) (vertexCount (now vertices)) (now list) from to ⌝ }
+    requires { ⌜ signOf side ≡ signOf (orientationOf (startOf (now vertices) i) (endOf (now vertices) i) (arc .to)) ⌝ }
+    ensures { λ r. ⌜ r ≡ isOnBorder (now (vertices .entry)) (arc .to) i ⌝ }
+{
+    if on_edge_by(vertex_at(vertices, i), end_of(vertices, i), arc.to, side) {
+        return coincident_listed(vertices, list, from, to, i) % 2 == 1;
+    }
+    false
+}
+
+// What edge i says of the query. Its own two orientations are worked out only where its ends are not strictly on one
+// side of the arc's plane.
+fn test_listed(
+    vertices: &[i32],
+    arc: Arc,
+    list: &[u16],
+    from: usize,
+    to: usize,
+    i: usize,
+) -> EdgeTest
+    requires { ⌜ AcceptedArc (now vertices) arc × (i < vertexCount (now vertices)) ⌝ }
+    requires { ⌜ Complete (Idle (now vertices) (arc .from) (arc .to)) (vertexCount (now vertices)) (now list) from to ⌝ }
+    ensures { λ r. ⌜ r ≡ testBy (isOnBorder (now (vertices .entry)) (arc .to) i)
+        (wayOf (now (vertices .entry)) (arc .from) (arc .to) i) ⌝ }
+{
+    let plane = arc.plane;
+    let a = vertex_at(vertices, i);
+    let b = end_of(vertices, i);
+    let s1 = side_of(plane, a);
+    let s2 = side_of(plane, b);
+    if is_beside(s1, s2) {
+        return EdgeTest::Way(0);
+    }
+    let grid = plane.grid;
+    let edge = plane_through(grid, a, b);
+    let side = side_of(edge, arc.to);
+    if is_on_border(vertices, arc, list, from, to, i, side) {
+        return EdgeTest::OnBorder;
+    }
+    EdgeTest::Way(crossing_from(edge, arc.from, s1, s2, side))
+}
+
+// What all edges say, by a list that is complete for the query.
+pub fn walk_list(vertices: &[i32], arc: Arc, list: &[u16], from: usize, to: usize) -> Tally
+    requires { ⌜ AcceptedArc (now vertices) arc ⌝ }
+    requires { ⌜ Complete (Idle (now vertices) (arc .from) (arc .to)) (vertexCount (now vertices)) (now list) from to ⌝ }
+    ensures { λ r. ⌜ r ≡ tallyFrom (now (vertices .entry)) (arc .from) (arc .to) 0
+        (vertexCount (now (vertices .entry))) ⌝ }
+{
+    let mut crossed: u32 = 0;
+    let mut sum: i32 = 0;
+    let mut e = from;
+    let found = loop {
+        if e >= to {
+            break Found::Nothing;
+        }
+        let i = wide(list[e]);
+        let way = match test_listed(vertices, arc, list, from, to, i) {
+            EdgeTest::OnBorder => break Found::At(i),
+            EdgeTest::Way(way) => way,
+        };
+        crossed += counted(way);
+        sum += way;
+        e += 1;
+    };
+    tally_by(found, crossed, sum)
+}
