@@ -4,3 +4,6 @@ pub mod Covers
 pub mod Coincident
 pub mod Halved
 pub mod Rays
+pub mod Pushed
+pub mod Split
+pub mod Index

@@ -1,2 +1,3 @@
 pub mod Cones
 pub mod Lists
+pub mod Table

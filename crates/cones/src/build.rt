@@ -1,0 +1,238 @@
+// The index of a polygon, from four cones round the reference point. Here, in order: Frame, magnitude, frame_of, across,
+// ahead, root (the four rays); grow_root; Index, build, no_index. Rays lie in a plane of two axes, turned off them: queries are often in
+// such a plane with the reference point, and none is certified on a ray.
+ghost use mathlib.Core.Path.{_≡_};
+ghost use Prim.Native.Nat.{_≤_, _<_};
+ghost use lib.ListN.{length};
+ghost use Rattle.sphere.specs.Point.{coarse, fine, limitOf, Fits, Within};
+ghost use Rattle.answer.specs.declared.Check.the-variants.{Passed};
+ghost use Rattle.polygon.specs.Checks.{acceptCheck};
+ghost use Rattle.polygon.specs.Vertices.{vertexCount};
+ghost use Rattle.cones.specs.Table.{Indexed, IndexOn, noIndex};
+use crate::grow::grow;
+use crate::grow::rest;
+use crate::lists::first_list;
+use crate::table::Cone;
+use crate::table::Size;
+use sphere::point::Grid;
+use sphere::point::Point;
+
+// The axis that is left out, and whether the rays turn about the reference point as they are numbered.
+pub struct Frame {
+    pub axis: usize,
+    pub forward: bool,
+}
+
+fn magnitude(k: i64) -> i64
+    requires { ⌜ Fits fine k ⌝ }
+{
+    if k < 0 {
+        return 0 - k;
+    }
+    k
+}
+
+// The longest axis of the reference point is left out.
+fn frame_of(known: Point) -> Frame
+    requires { ⌜ Within fine known ⌝ }
+{
+    let x = magnitude(known.x);
+    let y = magnitude(known.y);
+    let z = magnitude(known.z);
+    if z >= x {
+        if z >= y {
+            return Frame {
+                axis: 2,
+                forward: known.z > 0,
+            };
+        }
+    }
+    if y >= x {
+        return Frame {
+            axis: 1,
+            forward: known.y < 0,
+        };
+    }
+    Frame {
+        axis: 0,
+        forward: known.x > 0,
+    }
+}
+
+// One number of ray r of four, each a right angle after the one before.
+fn across(r: usize) -> i64
+    ensures { λ k. ⌜ Fits coarse k ⌝ }
+{
+    let turned = r % 4;
+    if turned == 0 {
+        return 1000000;
+    }
+    if turned == 1 {
+        return 310000;
+    }
+    if turned == 2 {
+        return -1000000;
+    }
+    -310000
+}
+
+// How many right angles the other number is ahead.
+fn ahead(forward: bool) -> usize
+    ensures { λ r. ⌜ r ≤ 3 ⌝ }
+{
+    if forward {
+        return 3;
+    }
+    1
+}
+
+fn root(frame: Frame, r: usize) -> Point
+    requires { ⌜ r < 5 ⌝ }
+    ensures { λ p. ⌜ Within coarse p ⌝ }
+{
+    let p = across(r);
+    let q = across(r + ahead(frame.forward));
+    if frame.axis == 0 {
+        return Point { x: 0, y: p, z: q };
+    }
+    if frame.axis == 1 {
+        return Point { x: p, y: 0, z: q };
+    }
+    Point { x: p, y: q, z: 0 }
+}
+
+// The nodes of the cone from ray r to the next.
+fn grow_root(
+    grid: Grid,
+    vertices: &[i32],
+    known: Point,
+    rays: &mut [i32],
+    spans: &mut [u16],
+    list: &mut [u16],
+    stack: &mut [u16],
+    frame: Frame,
+    r: usize,
+    size: Size,
+) -> Size
+    requires { ⌜ (acceptCheck (limitOf grid) (now vertices) known ≡ Passed) × (r < 4)
+        × (vertexCount (now vertices) ≤ length (now stack)) ⌝ }
+    requires { ⌜ Indexed (now vertices) known (now rays) (now spans) (now list) (size .nodes) (size .top) ⌝ }
+    ensures { λ s. ⌜ Indexed (now (vertices .entry)) known (now (rays .exit)) (now (spans .exit)) (now (list .exit))
+        (s .nodes) (s .top) ⌝ }
+{
+    let lo = root(frame, r);
+    let hi = root(frame, r + 1);
+    let to = first_list(grid, vertices, known, lo, hi, stack);
+    let quota = rest(640, 0, size.nodes) / (4 - r);
+    let cone = Cone {
+        from: 0,
+        to: to,
+        lo: lo,
+        hi: hi,
+        quota: quota,
+        depth: 16,
+    };
+    grow(grid, vertices, known, rays, spans, list, stack, cone, size)
+}
+
+// All nodes, and the end of their lists; and hints, how many of them lie before each of the four rays but the first, and
+// the first two rays.
+pub struct Index {
+    pub nodes: usize,
+    pub top: usize,
+    pub one: usize,
+    pub two: usize,
+    pub three: usize,
+    pub lo: Point,
+    pub hi: Point,
+}
+
+pub fn build(
+    grid: Grid,
+    vertices: &[i32],
+    known: Point,
+    rays: &mut [i32],
+    spans: &mut [u16],
+    list: &mut [u16],
+    stack: &mut [u16],
+) -> Index
+    requires { ⌜ (acceptCheck (limitOf grid) (now vertices) known ≡ Passed)
+        × (vertexCount (now vertices) ≤ length (now stack)) ⌝ }
+    ensures { λ r. ⌜ IndexOn (now (vertices .entry)) known (now (rays .exit)) (now (spans .exit)) (now (list .exit)) r ⌝ }
+{
+    let frame = frame_of(known);
+    let none = Size { nodes: 0, top: 0 };
+    let one = grow_root(
+        grid,
+        vertices,
+        known,
+        rays,
+        spans,
+        list,
+        stack,
+        frame,
+        0,
+        none,
+    );
+    let two = grow_root(
+        grid,
+        vertices,
+        known,
+        rays,
+        spans,
+        list,
+        stack,
+        frame,
+        1,
+        one,
+    );
+    let three = grow_root(
+        grid,
+        vertices,
+        known,
+        rays,
+        spans,
+        list,
+        stack,
+        frame,
+        2,
+        two,
+    );
+    let all = grow_root(
+        grid,
+        vertices,
+        known,
+        rays,
+        spans,
+        list,
+        stack,
+        frame,
+        3,
+        three,
+    );
+    Index {
+        nodes: all.nodes,
+        top: all.top,
+        one: one.nodes,
+        two: two.nodes,
+        three: three.nodes,
+        lo: root(frame, 0),
+        hi: root(frame, 1),
+    }
+}
+
+// An index without nodes, beside any arrays.
+pub fn no_index() -> Index
+    ensures { λ r. ⌜ r ≡ noIndex ⌝ }
+{
+    let none = Point { x: 0, y: 0, z: 0 };
+    Index {
+        nodes: 0,
+        top: 0,
+        one: 0,
+        two: 0,
+        three: 0,
+        lo: none,
+        hi: none,
+    }
+}

@@ -1,0 +1,112 @@
+// A query by the index. Here, in order: least, locate, guess (a node that may be the right one); is_between; tally_edges.
+ghost use mathlib.Core.Path.{_≡_};
+ghost use Prim.Native.Nat.{_≤_, _<_};
+ghost use Rattle.sphere.specs.Point.{coarse, limitOf, Within};
+ghost use Rattle.sphere.specs.Plane.{Sound};
+ghost use Rattle.answer.specs.declared.Check.the-variants.{Passed};
+ghost use Rattle.polygon.specs.Checks.{acceptCheck};
+ghost use Rattle.polygon.specs.Vertices.{vertexCount};
+ghost use Rattle.search.specs.Boxes.{Boxed};
+ghost use Rattle.search.specs.Walk.{tallyFrom};
+ghost use Rattle.cones.specs.Table.{isBetween, Rayed, IndexOn};
+use crate::build::Index;
+use crate::lists::wide;
+use crate::walk::walk_list;
+use polygon::vertices::vertex_at;
+use search::arc::arc_between;
+use search::walk;
+use search::walk::Tally;
+use sphere::plane::Plane;
+use sphere::plane::side_of;
+use sphere::point::Grid;
+use sphere::point::Point;
+
+fn least(a: usize, b: usize) -> usize
+    ensures { λ r. ⌜ (r ≤ a) × (r ≤ b) ⌝ }
+{
+    if a < b {
+        return a;
+    }
+    b
+}
+
+// Of the nodes from `from` on before `to`, which follow each other, how many begin before the query; counted from node 0.
+fn locate(plane: Plane, rays: &[i32], nodes: usize, from: usize, to: usize) -> usize
+    requires { ⌜ Sound plane × Rayed (limitOf (plane .grid)) (now rays) nodes ⌝ }
+    ensures { λ r. ⌜ r ≤ nodes ⌝ }
+{
+    let mut high = least(to, nodes);
+    let mut low = least(from, high);
+    while low < high {
+        let middle = low + (high - low) / 2;
+        if side_of(plane, vertex_at(rays, middle * 2)) < 0 {
+            low = middle + 1;
+        } else {
+            high = middle;
+        }
+    }
+    low
+}
+
+// The same of all nodes, by the quarter that the query is in.
+fn guess(plane: Plane, rays: &[i32], index: Index) -> usize
+    requires { ⌜ Sound plane × Rayed (limitOf (plane .grid)) (now rays) (index .nodes) ⌝ }
+    requires { ⌜ Within (limitOf (plane .grid)) (index .lo) × Within (limitOf (plane .grid)) (index .hi) ⌝ }
+    ensures { λ r. ⌜ r ≤ index .nodes ⌝ }
+{
+    let first = side_of(plane, index.lo);
+    let second = side_of(plane, index.hi);
+    if first < 0 {
+        if second > 0 {
+            return locate(plane, rays, index.nodes, 0, index.one);
+        }
+        return locate(plane, rays, index.nodes, index.one, index.two);
+    }
+    if second < 0 {
+        return locate(plane, rays, index.nodes, index.two, index.three);
+    }
+    locate(plane, rays, index.nodes, index.three, index.nodes)
+}
+
+// The query is strictly between the two rays.
+fn is_between(plane: Plane, lo: Point, hi: Point) -> bool
+    requires { ⌜ Sound plane × Within (limitOf (plane .grid)) lo × Within (limitOf (plane .grid)) hi ⌝ }
+    ensures { λ r. ⌜ r ≡ isBetween (plane .normal) lo hi ⌝ }
+{
+    if side_of(plane, lo) < 0 {
+        return side_of(plane, hi) > 0;
+    }
+    false
+}
+
+// What all edges say of a query: by a node, where the query is in its cone, or else by the boxes.
+pub fn tally_edges(
+    grid: Grid,
+    vertices: &[i32],
+    boxes: &[i32],
+    rays: &[i32],
+    spans: &[u16],
+    list: &[u16],
+    index: Index,
+    known: Point,
+    query: Point,
+    by_boxes: bool,
+) -> Tally
+    requires { ⌜ (acceptCheck (limitOf grid) (now vertices) known ≡ Passed) × Within (limitOf grid) query
+        × Boxed (now vertices) (now boxes) ⌝ }
+    requires { ⌜ IndexOn (now vertices) known (now rays) (now spans) (now list) index ⌝ }
+    ensures { λ r. ⌜ r ≡ tallyFrom (now (vertices .entry)) known query 0 (vertexCount (now (vertices .entry))) ⌝ }
+{
+    let arc = arc_between(grid, known, query, by_boxes);
+    let k = guess(arc.plane, rays, index);
+    if k > 0 {
+        let lo = vertex_at(rays, (k - 1) * 2);
+        let hi = vertex_at(rays, (k - 1) * 2 + 1);
+        if is_between(arc.plane, lo, hi) {
+            let from = wide(spans[(k - 1) * 2]);
+            let to = wide(spans[(k - 1) * 2 + 1]);
+            return walk_list(vertices, arc, list, from, to);
+        }
+    }
+    walk::tally_edges(grid, vertices, boxes, known, query, by_boxes)
+}
