@@ -1,5 +1,5 @@
--- Lists of edges, and parts of them: for the code alone. Defined, in order: isClear, isClearOf (an edge that lies on the
--- positive side of a plane); Entries; Kept (a list without some entries), Framed, Filtered, Sifted.
+-- Lists of edges, and parts of them: for the code alone. Defined, in order: isClear, isClearOf (an edge that lies on
+-- the positive side of a plane); Entries; Kept (a list without some entries), Framed, Filtered, Sifted.
 use mathlib.Core.Path.{_≡_}
 use mathlib.Core.Bool.{Bool, true, _&&_}
 use mathlib.Core.List.{List}

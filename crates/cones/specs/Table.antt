@@ -1,8 +1,7 @@
--- The table of cones: for the code alone. Node k is the cone between the rays 2k and 2k + 1, and the entries of one list
--- from span 2k on before span 2k + 1. Defined, in order: Node, Indexed (the first nodes),
--- IndexOn, noIndex, Rayed, isBetween; Room, Roomy, Copied (one node more);
--- ConeOn (a cone whose list is on the stack), Halves, Halved, Halvable, Allows,
--- HalfOf, LowerOf, SplitOf (a cone that is halved).
+-- The table of cones: for the code alone. Node k is the cone between the rays 2k and 2k + 1, with the entries of one
+-- list from span 2k on before span 2k + 1. Defined, in order: Node, Indexed (the first nodes), IndexOn, noIndex, Rayed,
+-- isBetween; Room, Roomy, Copied (one node more); ConeOn (a cone whose list is on the stack), Halves, Halved, Halvable,
+-- Allows, HalfOf, LowerOf, SplitOf (a cone that is halved).
 use mathlib.Core.Path.{_≡_}
 use mathlib.Core.Bool.{Bool, true, false, _&&_}
 use mathlib.Core.List.{List}

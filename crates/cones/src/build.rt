@@ -1,6 +1,6 @@
-// The index of a polygon, from four cones round the reference point. Here, in order: Frame, magnitude, frame_of, across,
-// ahead, root (the four rays); grow_root; Index, build, no_index. Rays lie in a plane of two axes, turned off them: queries are often in
-// such a plane with the reference point, and none is certified on a ray.
+// The index of a polygon, from four cones round the reference point. Here, in order: Frame, magnitude, frame_of,
+// across, ahead, root (the four rays); grow_root; Index, build, no_index. The rays lie in a plane of two axes, turned
+// off them: queries are often in such a plane with the reference point, and none is certified on a ray.
 ghost use mathlib.Core.Path.{_≡_};
 ghost use Prim.Native.Nat.{_≤_, _<_};
 ghost use lib.ListN.{length};
@@ -135,8 +135,8 @@ fn grow_root(
     grow(grid, vertices, known, rays, spans, list, stack, cone, size)
 }
 
-// All nodes, and the end of their lists; and hints, how many of them lie before each of the four rays but the first, and
-// the first two rays.
+// All nodes, and the end of their lists; and hints, how many of them lie before each of the four rays but the first,
+// and the first two rays.
 pub struct Index {
     pub nodes: usize,
     pub top: usize,
@@ -158,7 +158,8 @@ pub fn build(
 ) -> Index
     requires { ⌜ (acceptCheck (limitOf grid) (now vertices) known ≡ Passed)
         × (vertexCount (now vertices) ≤ length (now stack)) ⌝ }
-    ensures { λ r. ⌜ IndexOn (now (vertices .entry)) known (now (rays .exit)) (now (spans .exit)) (now (list .exit)) r ⌝ }
+    ensures { λ r. ⌜ IndexOn (now (vertices .entry)) known (now (rays .exit)) (now (spans .exit))
+        (now (list .exit)) r ⌝ }
 {
     let frame = frame_of(known);
     let none = Size { nodes: 0, top: 0 };

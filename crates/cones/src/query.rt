@@ -1,7 +1,8 @@
-// A query by the index. Here, in order: least, locate, guess (a node that may be the right one); is_between; tally_edges.
+// A query by the index. Here, in order: least, locate, guess (a node that may be the right one); is_between,
+// tally_edges.
 ghost use mathlib.Core.Path.{_≡_};
 ghost use Prim.Native.Nat.{_≤_, _<_};
-ghost use Rattle.sphere.specs.Point.{coarse, limitOf, Within};
+ghost use Rattle.sphere.specs.Point.{limitOf, Within};
 ghost use Rattle.sphere.specs.Plane.{Sound};
 ghost use Rattle.answer.specs.declared.Check.the-variants.{Passed};
 ghost use Rattle.polygon.specs.Checks.{acceptCheck};
@@ -30,7 +31,7 @@ fn least(a: usize, b: usize) -> usize
     b
 }
 
-// Of the nodes from `from` on before `to`, which follow each other, how many begin before the query; counted from node 0.
+// Of the nodes from `from` on before `to`, which follow each other, where those end that begin before the query.
 fn locate(plane: Plane, rays: &[i32], nodes: usize, from: usize, to: usize) -> usize
     requires { ⌜ Sound plane × Rayed (limitOf (plane .grid)) (now rays) nodes ⌝ }
     ensures { λ r. ⌜ r ≤ nodes ⌝ }

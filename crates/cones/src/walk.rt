@@ -58,7 +58,8 @@ fn is_on_border(
     side: i64,
 ) -> bool
     requires { ⌜ AcceptedArc (now vertices) arc × (i < vertexCount (now vertices)) ⌝ }
-    requires { ⌜ Complete (Idle (now vertices) (arc .from) (arc .to)) (vertexCount (now vertices)) (now list) from to ⌝ }
+    requires { ⌜ Complete (Idle (now vertices) (arc .from) (arc .to)) (vertexCount (now vertices)) (now list)
+        from to ⌝ }
     requires { ⌜ signOf side ≡ signOf (orientationOf (startOf (now vertices) i) (endOf (now vertices) i) (arc .to)) ⌝ }
     ensures { λ r. ⌜ r ≡ isOnBorder (now (vertices .entry)) (arc .to) i ⌝ }
 {
@@ -79,7 +80,8 @@ fn test_listed(
     i: usize,
 ) -> EdgeTest
     requires { ⌜ AcceptedArc (now vertices) arc × (i < vertexCount (now vertices)) ⌝ }
-    requires { ⌜ Complete (Idle (now vertices) (arc .from) (arc .to)) (vertexCount (now vertices)) (now list) from to ⌝ }
+    requires { ⌜ Complete (Idle (now vertices) (arc .from) (arc .to)) (vertexCount (now vertices)) (now list)
+        from to ⌝ }
     ensures { λ r. ⌜ r ≡ testBy (isOnBorder (now (vertices .entry)) (arc .to) i)
         (wayOf (now (vertices .entry)) (arc .from) (arc .to) i) ⌝ }
 {
@@ -103,7 +105,8 @@ fn test_listed(
 // What all edges say, by a list that is complete for the query.
 pub fn walk_list(vertices: &[i32], arc: Arc, list: &[u16], from: usize, to: usize) -> Tally
     requires { ⌜ AcceptedArc (now vertices) arc ⌝ }
-    requires { ⌜ Complete (Idle (now vertices) (arc .from) (arc .to)) (vertexCount (now vertices)) (now list) from to ⌝ }
+    requires { ⌜ Complete (Idle (now vertices) (arc .from) (arc .to)) (vertexCount (now vertices)) (now list)
+        from to ⌝ }
     ensures { λ r. ⌜ r ≡ tallyFrom (now (vertices .entry)) (arc .from) (arc .to) 0
         (vertexCount (now (vertices .entry))) ⌝ }
 {

@@ -2,7 +2,7 @@
 -- (an entry), entries; walk-start, walk-step, walk-held (a walk over a complete list says what a walk over all edges
 -- says); kept-least, kept-same, kept-whole, kept-covers (what is kept of a complete list is complete).
 use mathlib.Core.Path.{_≡_, refl, sym, _∙_, ap, subst}
-use mathlib.Core.Bool.{Bool, true, false}
+use mathlib.Core.Bool.{Bool, true}
 use mathlib.Core.List.{List}
 use mathlib.Core.Logic.{⊎-elim}
 use Prim.Native.Nat.{ℕ, zero, suc, _+_, _-_, _≤_, _<_}

@@ -1,7 +1,7 @@
 -- The lists of cones. Proved, in order: clear-idle (an edge that is clear of a plane), idle-after, idle-before (in a
 -- cone); certified (what the two sides of a query give); halved-low, halved-high (the halves of a cone).
-use mathlib.Core.Path.{_≡_, refl, sym, subst}
-use mathlib.Core.Bool.{Bool, true, false, true≢false}
+use mathlib.Core.Path.{_≡_, sym, subst}
+use mathlib.Core.Bool.{true, false, true≢false}
 use mathlib.Core.List.{List}
 use Prim.Native.Nat.{ℕ, _<_}
 use native.Mathlib.Omega.{arith}

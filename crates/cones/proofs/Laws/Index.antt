@@ -5,14 +5,13 @@ use mathlib.Core.Bool.{Bool, true, false, _&&_, true≢false}
 use mathlib.Core.List.{List}
 use Prim.Native.Nat.{ℕ}
 use native.Mathlib.Omega.{arith}
-use lib.Dec.{lit≤}
 use lib.IntN.{ℤ, pos}
 use Rattle.integers.specs.Sign.{signOf, isPositive, isNegative}
 use Rattle.integers.proofs.Sign.{lt, gt, allows-is}
 use Rattle.sphere.specs.declared.point.Point.{Point}
 use Rattle.sphere.specs.declared.point.Grid.{Grid}
-use Rattle.sphere.specs.Point.{coarse, origin, limitOf, Fits, Within}
-use Rattle.sphere.specs.Orientation.{orientationOf, crossOf, dotOf}
+use Rattle.sphere.specs.Point.{coarse, limitOf, Fits}
+use Rattle.sphere.specs.Orientation.{crossOf, dotOf}
 use Rattle.search.proofs.Laws.Skipped.{side-of}
 use Rattle.cones.specs.Cones.{InCone}
 use Rattle.cones.specs.Table.{Indexed, IndexOn, noIndex, Rayed, isBetween}

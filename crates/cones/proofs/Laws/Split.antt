@@ -1,8 +1,8 @@
 -- A cone that is halved. Proved, in order: sifted-low, sifted-high (the lists of its halves), framed-on (a stack that
 -- changed behind its list), half-on (a half, by its parts), room-after.
-use mathlib.Core.Path.{_≡_, sym, subst}
+use mathlib.Core.Path.{_≡_, subst}
 use mathlib.Core.List.{List}
-use Prim.Native.Nat.{ℕ, _≤_}
+use Prim.Native.Nat.{ℕ}
 use native.Mathlib.Omega.{arith}
 use lib.IntN.{ℤ}
 use lib.ListN.{length}
@@ -60,5 +60,6 @@ half-on vs X r f t a b low high all = record {
   complete = rw (f, t, a, b) all;
 }
 
-pub room-after : (l m : List ℕ) {cone : Cone} → length m ≡ length l → Halvable cone (length l) → Halvable cone (length m)
+pub room-after : (l m : List ℕ) {cone : Cone} → length m ≡ length l → Halvable cone (length l) →
+    Halvable cone (length m)
 room-after l m e h = record { deep = h .deep; enough = omega (arith, e, h .enough) }

@@ -1,11 +1,9 @@
 -- `build` meets its contract: no nodes, and those of four cones.
 use mathlib.Core.Path.{_≡_, _∙_}
-use Prim.Native.Nat.{_≤_}
 use native.Mathlib.Omega.{arith}
 use borrow.Author.Needs.{needs}
 use lib.ListN.{length}
 use Rattle.sphere.proofs.Laws.Plane.{grid→fine}
-use Rattle.polygon.specs.Vertices.{vertexCount}
 use Rattle.polygon.proofs.Laws.Checks.{accept-passed}
 use Rattle.cones.proofs.Laws.Index.{none-indexed}
 use Rattle.cones.proofs.build.build.Statement.{statement}

@@ -1,12 +1,12 @@
 -- The proof of the cycle of calls {grow}. The measure is the depth.
-use mathlib.Core.Path.{_≡_, refl, sym, _∙_, subst}
+use mathlib.Core.Path.{refl, _∙_, subst}
 use mathlib.Core.List.{List}
 use Prim.Native.Nat.{ℕ, _+_, _≤_, _<_}
 use native.Mathlib.Omega.{arith}
 use borrow.Author.Needs.{needs}
 use borrow.Fn.Kinds.{In}
 use borrow.Fn.PlainCycle.{Measures, is, falls, and}
-use lib.ListN.{length, getD}
+use lib.ListN.{length}
 use Rattle.cones.specs.declared.table.Cone.{Cone}
 use Rattle.cones.specs.Lists.{Framed}
 use Rattle.cones.specs.Table.{ConeOn, LowerOf, SplitOf}

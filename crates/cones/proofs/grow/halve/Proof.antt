@@ -1,5 +1,5 @@
 -- `halve` meets its contract: three signs.
-use mathlib.Core.Path.{_≡_, sym, _∙_, ap, subst}
+use mathlib.Core.Path.{_≡_, sym, _∙_, ap}
 use mathlib.Core.Bool.{true}
 use lib.Dec.{T}
 use lib.IntN.{ℤ, pos}
@@ -7,7 +7,7 @@ use lib.Signed.{_<ℤ_, mag, ltZ}
 use Prim.Native.Nat.{_^_, _<_}
 use borrow.Author.Needs.{needs}
 use mir.Syntax.{w64}
-use mir.Val.{SFits, hbits, toZ, ofZ}
+use mir.Val.{hbits, toZ, ofZ}
 use Rattle.integers.specs.Sign.{signOf, isPositive}
 use Rattle.integers.proofs.Compare.{positive-test}
 use Rattle.integers.proofs.Sign.{gt, allows-is}

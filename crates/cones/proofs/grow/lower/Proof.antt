@@ -1,5 +1,5 @@
 -- `lower` meets its contract: where the cone is halved, what is sifted is complete for its lower half.
-use mathlib.Core.Path.{_≡_, sym, subst}
+use mathlib.Core.Path.{sym, subst}
 use native.Mathlib.Omega.{arith}
 use borrow.Author.Needs.{needs}
 use borrow.Author.Tests.{not-false}
@@ -61,7 +61,8 @@ module _ (k : tie.After-known-told) where
 
   halvable : Halvable (start .args .cone) (length (start .args .stack .now))
   halvable =
-      subst (Allows (start .args .cone) (length (start .args .stack .now))) (not-false (may .before .may-halve .result) (may .if1 .left))
+      subst (Allows (start .args .cone) (length (start .args .stack .now)))
+      (not-false (may .before .may-halve .result) (may .if1 .left))
       (may .before .may-halve .ensures)
 
 plane-through-requires : tie.Need-plane-through-requires
@@ -139,7 +140,9 @@ returns-4 c =
       f .framed,
       record {
         half = record {
-          on = half-on (v .vertices .now) (v .known) _ (h .0) (h .1) (h .2) (h .3) (s .pre .1 .low) (halves k .within) all;
+          on =
+              half-on (v .vertices .now) (v .known) _ (h .0) (h .1) (h .2) (h .3) (s .pre .1 .low) (halves k .within)
+              all;
           after = omega (arith, h .1, f .after);
           shallower = h .4;
         };

@@ -1,5 +1,5 @@
 -- `upper` meets its contract: what is sifted is complete for the upper half.
-use mathlib.Core.Path.{_≡_, sym, subst}
+use mathlib.Core.Path.{sym, subst}
 use native.Mathlib.Omega.{arith}
 use Rattle.sphere.specs.Point.{limitOf}
 use Rattle.sphere.proofs.Laws.Plane.{Made, plane-made}
@@ -64,7 +64,9 @@ returns c =
     (s .pre .1 .0) _ f (s .pre .0 .1 .complete) (made p .normal-is) in (
       f .framed,
       record {
-        on = half-on (v .vertices .now) (v .known) _ (h .0) (h .1) (h .2) (h .3) (s .pre .1 .0 .within) (s .pre .0 .1 .high) all;
+        on =
+            half-on (v .vertices .now) (v .known) _ (h .0) (h .1) (h .2) (h .3) (s .pre .1 .0 .within)
+            (s .pre .0 .1 .high) all;
         after = omega (arith, h .1, f .after);
         shallower = h .4;
       },

@@ -1,6 +1,6 @@
 -- `filter` meets its contract: what is kept of the entries passed stands behind `to`, and the entries before `to` stay.
 use mathlib.Core.Path.{_≡_, refl, sym, _∙_, ap, subst}
-use mathlib.Core.Bool.{Bool, true, false, not, true≢false}
+use mathlib.Core.Bool.{Bool, true, false, not}
 use mathlib.Core.List.{List}
 use mathlib.Core.Logic.{⊎-elim}
 use Prim.Native.Nat.{ℕ, _+_, _-_, _≤_, _<_}
@@ -10,7 +10,6 @@ use borrow.Author.Needs.{needs}
 use borrow.Author.Tests.{not-false}
 use lib.ListN.{length, getD, set, length-set}
 use lib.Seq.{getD-set-same, getD-set-other}
-use Rattle.polygon.specs.Vertices.{vertexCount}
 use Rattle.cones.specs.Lists.{isClearOf, Kept, begin, drop, copy, Framed}
 use Rattle.cones.proofs.Laws.Covers.{kept-same}
 use Rattle.cones.proofs.lists.filter.Statement.{statement}

@@ -1,6 +1,6 @@
 -- `first_list` meets its contract: each edge before i is on the list, or clear of one of the two planes.
 use mathlib.Core.Path.{_≡_, refl, sym, _∙_, ap, subst}
-use mathlib.Core.Bool.{Bool, true, false, _||_, true≢false}
+use mathlib.Core.Bool.{Bool, true, false, _||_}
 use mathlib.Core.List.{List}
 use mathlib.Core.Logic.{_⊎_, inl, inr, ⊎-elim}
 use Prim.Native.Nat.{ℕ, _+_, _-_, _≤_, _<_}
@@ -12,8 +12,8 @@ use lib.IntN.{ℤ}
 use lib.ListN.{length, getD, set, length-set}
 use lib.Seq.{getD-set-same, getD-set-other}
 use Rattle.sphere.specs.declared.point.Point.{Point}
+use Rattle.sphere.specs.declared.point.Grid.{Grid}
 use Rattle.sphere.specs.Point.{limitOf}
-use Rattle.sphere.specs.Orientation.{crossOf}
 use Rattle.sphere.proofs.Laws.Plane.{Made, plane-made}
 use Rattle.polygon.specs.Vertices.{vertexCount}
 use Rattle.polygon.specs.Accepted.{Gridded}
@@ -117,18 +117,21 @@ mul-list c = search needs
 slice-write-list : tie.Need-slice-write-list Inv-loop μ-loop
 slice-write-list c = fits c
 
-grid-of : (g : tie.After-plane-through2 Inv-loop μ-loop) → Gridded (limitOf (start g .args .grid)) (start g .args .vertices .now)
-grid-of g = reference (start g) .accepted .gridded
+-- The vertices are within the grid of either plane.
+grid-of : (p : tie.After-plane-through2 Inv-loop μ-loop) {g : Grid} → g ≡ start p .args .grid →
+    Gridded (limitOf g) (start p .args .vertices .now)
+grid-of p e =
+    subst (λ g. Gridded (limitOf g) (start p .args .vertices .now)) (sym e) (reference (start p) .accepted .gridded)
 
 clear-at-requires : tie.Need-clear-at-requires Inv-loop μ-loop
 clear-at-requires c κs =
     let p = planes c in
-    (subst (λ g. Gridded (limitOf g) (start p .args .vertices .now)) (sym (low p .grid-is)) (grid-of p), low p .sound, more c)
+    (grid-of p (low p .grid-is), low p .sound, more c)
 
 clear-at-requires-2 : tie.Need-clear-at-requires-2 Inv-loop μ-loop
 clear-at-requires-2 c κs =
     let p = planes (c .before) in
-    (subst (λ g. Gridded (limitOf g) (start p .args .vertices .now)) (sym (high p .grid-is)) (grid-of p), high p .sound, more (c .before))
+    (grid-of p (high p .grid-is), high p .sound, more (c .before))
 
 add-end : tie.Need-add-end Inv-loop μ-loop
 add-end c = omega (arith, fits (c .before .before .before .before .before))

@@ -21,7 +21,8 @@ not-below positive t e = refl
 returns : tie.Need-returns
 returns c =
     let s = c .before in
-    below (signOf (s .args .s)) (signOf (s .args .t)) (sym (negative-test w64 (s .args .s) (s .fits .s)) ∙ c .if1 .taken)
+    below (signOf (s .args .s)) (signOf (s .args .t))
+    (sym (negative-test w64 (s .args .s) (s .fits .s)) ∙ c .if1 .taken)
 
 returns-2 : tie.Need-returns-2
 returns-2 c =

@@ -1,5 +1,5 @@
 -- `locate` meets its contract: it stays among the nodes.
-use Prim.Native.Nat.{_*_, _-_, _/_, _+_, _≤_}
+use Prim.Native.Nat.{_*_, _-_, _≤_}
 use native.Mathlib.Omega.{arith}
 use borrow.Author.Needs.{needs}
 use Rattle.cones.proofs.query.locate.Statement.{statement}
@@ -45,7 +45,8 @@ side-of-requires : tie.Need-side-of-requires Inv-loop μ-loop
 side-of-requires c κs =
     let t = c .before in
     let s = start t in
-    (s .pre .0, rw (c .vertex-at .ensures) (s .pre .1 .each _ (omega (arith, t .loop-test .taken, t .before .loop .inv .1))))
+    let below = t .before .loop .inv .1 in
+    (s .pre .0, rw (c .vertex-at .ensures) (s .pre .1 .each _ (omega (arith, t .loop-test .taken, below))))
 
 add-low : tie.Need-add-low Inv-loop μ-loop
 add-low c = search needs

@@ -1,12 +1,12 @@
 -- `tally_edges` meets its contract: two sides certify the node, and its list is complete.
 use mathlib.Core.Path.{_≡_, sym, _∙_, ap, subst}
 use mathlib.Core.Bool.{true}
-use Prim.Native.Nat.{ℕ, _+_, _*_, _-_, _<_, _≤_}
+use Prim.Native.Nat.{ℕ, _+_, _*_, _-_, _<_}
 use native.Mathlib.Omega.{arith}
 use borrow.Author.Needs.{needs}
 use lib.ListN.{getD}
 use Rattle.polygon.specs.Vertices.{vertexCount, vertexAt}
-use Rattle.polygon.proofs.Laws.Checks.{Reference, reference-accepted, accept-passed}
+use Rattle.polygon.proofs.Laws.Checks.{reference-accepted, accept-passed}
 use Rattle.sphere.specs.Point.{limitOf, Within}
 use Rattle.search.specs.Arc.{arcOf, AcceptedArc}
 use Rattle.search.specs.Walk.{tallyFrom}
@@ -162,8 +162,8 @@ walk-list-requires c κs =
         within = n .within;
         covers = certified vs X off lo hi P at
             (subst (λ x. Complete (IdleIn vs x lo hi) (vertexCount vs) (v .list .now)
-            (getD (v .spans .now) (k (found t) * 2) 0) (getD (v .spans .now) (k (found t) * 2 + 1) 0)) (sym from-known) n
-            .covers);
+            (getD (v .spans .now) (k (found t) * 2) 0) (getD (v .spans .now) (k (found t) * 2 + 1) 0))
+            (sym from-known) n .covers);
       }),
     )
 

@@ -1,5 +1,5 @@
 -- `copy` meets its contract: the entries passed stand from `at` on, and those before `at` stay.
-use mathlib.Core.Path.{_≡_, refl, sym, _∙_, ap, subst}
+use mathlib.Core.Path.{_≡_, refl, _∙_, subst}
 use mathlib.Core.Bool.{Bool, false}
 use mathlib.Core.List.{List}
 use Prim.Native.Nat.{ℕ, suc, _+_, _-_, _≤_, _<_}
@@ -55,7 +55,8 @@ loop-holds c =
       within = c .pre .0;
       before = λ x h. refl;
       kept =
-          subst (λ k. Kept never (c .args .stack .now) (c .args .list .now) (c .args .from) (c .args .at) (c .args .from) k)
+          subst (λ k. Kept never (c .args .stack .now) (c .args .list .now) (c .args .from) (c .args .at)
+          (c .args .from) k)
           none begin;
     }
 

@@ -1,5 +1,4 @@
 -- `put_node` meets its contract: the new node is complete as its list on the stack is, and the others stay.
-use mathlib.Core.Path.{_≡_}
 use Prim.Native.Nat.{_-_}
 use borrow.Author.Needs.{needs}
 use Rattle.polygon.specs.Vertices.{vertexCount}

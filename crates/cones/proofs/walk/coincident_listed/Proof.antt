@@ -1,10 +1,9 @@
 -- `coincident_listed` meets its contract: what was counted of the edges that the entries before e cover, and entry e,
 -- are counted of those that the entries before e + 1 cover.
-use mathlib.Core.Path.{_≡_, sym, _∙_, ap, subst}
+use mathlib.Core.Path.{_≡_, sym, _∙_, subst}
 use mathlib.Core.Bool.{Bool, true, false, cond}
 use mathlib.Core.List.{List}
-use Prim.Native.Nat.{ℕ, _+_, _-_, _≤_, _<_}
-use native.Mathlib.Numerals.{add-one}
+use Prim.Native.Nat.{ℕ, _+_, _-_, _≤_}
 use native.Mathlib.Omega.{arith}
 use borrow.Author.Needs.{needs}
 use lib.IntN.{ℤ}
@@ -12,7 +11,7 @@ use lib.ListN.{getD}
 use Rattle.polygon.specs.Vertices.{vertexCount, startOf, endOf}
 use Rattle.polygon.specs.Border.{isCoincident, coincidentOf}
 use Rattle.polygon.proofs.Laws.Edges.{end-within}
-use Rattle.cones.specs.Cones.{Covers, keep}
+use Rattle.cones.specs.Cones.{Covers}
 use Rattle.cones.proofs.Laws.Covers.{AtEntry, covers-at}
 use Rattle.cones.proofs.Laws.Coincident.{Counted, count-start, count-step, count-few}
 use Rattle.cones.proofs.walk.coincident_listed.Statement.{statement}

@@ -68,7 +68,8 @@ coincident-listed-requires c κs =
 returns : tie.Need-returns
 unfolding isBorder
 returns c =
-    rw (held (c .before .before) (c .before .if1 .taken)) (ap (λ (k : ℕ). eqb (k % 2) 1) (c .coincident-listed .ensures))
+    rw (held (c .before .before) (c .before .if1 .taken))
+    (ap (λ (k : ℕ). eqb (k % 2) 1) (c .coincident-listed .ensures))
 
 returns-2 : tie.Need-returns-2
 returns-2 c = rw (held (c .before) (c .if1 .left))

@@ -103,7 +103,8 @@ module _ (c : tie.After-side-of3) where
   side = toZ w64 (ofZ w64 (c .side-of3 .result))
 
   side-of-query : signOf side
-      ≡ signOf (orientationOf (corner .before .vertex-at .result) (corner .end-of .result) (entry corner .args .arc .to))
+      ≡ signOf (orientationOf (corner .before .vertex-at .result) (corner .end-of .result)
+      (entry corner .args .arc .to))
   side-of-query =
       result-sign w64 (c .side-of3 .result) (c .side-of3 .ok)
       (c .side-of3 .ensures ∙ ap signOf (made-turn (made (c .before)) (entry corner .args .arc .to)))
