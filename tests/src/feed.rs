@@ -54,7 +54,7 @@ fn result(bytes: &[u8]) -> Answer {
 }
 
 /// A feed with `more` bytes of room than it needs has to succeed and to say what the single calls say.
-fn equals_single_calls(sheet: &[u8], queries: &[Point], more: usize) -> Vec<u32> {
+pub fn equals_single_calls(sheet: &[u8], queries: &[Point], more: usize) -> Vec<u32> {
     let bytes = points_bytes(queries);
     let (answer, after) = feed(sheet, &bytes, bytes.len() + more);
     assert_eq!(answer, DONE);

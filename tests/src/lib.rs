@@ -48,6 +48,8 @@ mod header;
 #[cfg(test)]
 mod importer;
 #[cfg(test)]
+mod index;
+#[cfg(test)]
 mod install;
 #[cfg(test)]
 mod known_point;

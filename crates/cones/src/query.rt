@@ -15,8 +15,9 @@ use crate::lists::wide;
 use crate::walk::walk_list;
 use polygon::vertices::vertex_at;
 use search::arc::arc_between;
-use search::walk;
+use search::walk::Mode;
 use search::walk::Tally;
+use search::walk::search_edges;
 use sphere::plane::Plane;
 use sphere::plane::side_of;
 use sphere::point::Grid;
@@ -91,14 +92,14 @@ pub fn tally_edges(
     index: Index,
     known: Point,
     query: Point,
-    by_boxes: bool,
+    mode: Mode,
 ) -> Tally
     requires { ⌜ (acceptCheck (limitOf grid) (now vertices) known ≡ Passed) × Within (limitOf grid) query
         × Boxed (now vertices) (now boxes) ⌝ }
     requires { ⌜ IndexOn (now vertices) known (now rays) (now spans) (now list) index ⌝ }
     ensures { λ r. ⌜ r ≡ tallyFrom (now (vertices .entry)) known query 0 (vertexCount (now (vertices .entry))) ⌝ }
 {
-    let arc = arc_between(grid, known, query, by_boxes);
+    let arc = arc_between(grid, known, query, true);
     let k = guess(arc.plane, rays, index);
     if k > 0 {
         let lo = vertex_at(rays, (k - 1) * 2);
@@ -109,5 +110,5 @@ pub fn tally_edges(
             return walk_list(vertices, arc, list, from, to);
         }
     }
-    walk::tally_edges(grid, vertices, boxes, known, query, by_boxes)
+    search_edges(grid, vertices, boxes, known, query, mode).tally
 }

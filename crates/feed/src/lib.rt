@@ -1,6 +1,8 @@
 // A whole feed in one call: document 02's P1. Here, in order: size_check (26, 27), feed_boxed (26, 27, 10, 28, 11 to
-// 16), store_result, mode_for, judge_one, judge_each, judge_feed. Nothing of the polygon is copied for a query, and its boxes are
-// built once. A second point that is all zero is none (document 02, P4).
+// 16), store_result, mode_for, judge_one, judge_all, judge_by_index, judge_each, judge_feed. Nothing of the polygon is
+// copied for a query, and its boxes are built once. A second point that is all zero is none (document 02, P4).
+mod indexed;
+
 ghost use mathlib.Core.Path.{_≡_};
 ghost use Prim.Native.Nat.{_+_, _*_, _≤_, _<_};
 ghost use lib.Dec.{ltb};
@@ -12,16 +14,20 @@ ghost use Rattle.answer.specs.Answer.{placeOf};
 ghost use Rattle.polygon.specs.Pair.{optionalCheck};
 ghost use Rattle.search.specs.Boxes.{Boxed};
 ghost use Rattle.search.specs.Walk.{asksBoxes};
+ghost use Rattle.cones.specs.Table.{IndexOn};
 ghost use Rattle.judging.specs.Accept.{BoxRoom, boxedAfter};
 ghost use Rattle.feed.specs.Feed.{queryCount, roomNeeded, resultBytes, resultOf, feedBytes, sizeCheck};
 ghost use Rattle.feed.specs.Feed.{feedCheck, feedOf, resultsAfter};
+use crate::indexed::judge_indexed;
 use answer::Answer;
 use answer::Check;
 use big_endian::read;
 use big_endian::store;
+use cones::build::Index;
+use cones::build::build;
+use cones::build::no_index;
 use judging::accept::accept_boxed;
 use judging::accept::no_second;
-use judging::judge::judge_boxed;
 use polygon::grids::grid_check;
 use polygon::grids::is_mixed;
 use search::walk::Mode;
@@ -95,6 +101,10 @@ fn judge_one(
     grid: Grid,
     vertices: &[i32],
     boxes: &[i32],
+    rays: &[i32],
+    spans: &[u16],
+    list: &[u16],
+    index: Index,
     known: Point,
     second: Point,
     queries: &[u8],
@@ -103,6 +113,7 @@ fn judge_one(
 )
     requires { ⌜ (optionalCheck (limitOf grid) (now vertices) known second ≡ Passed)
         × Boxed (now vertices) (now boxes) ⌝ }
+    requires { ⌜ IndexOn (now vertices) known (now rays) (now spans) (now list) index ⌝ }
     requires { ⌜ i < queryCount (now queries) ⌝ }
     requires { ⌜ roomNeeded (now queries) ≤ length (now results) ⌝ }
     ensures { λ _. ⌜ now (results .exit) ≡ sets (now (results .entry)) (i * 12)
@@ -111,12 +122,108 @@ fn judge_one(
     let at = i * 12;
     let query = read::point_at(queries, at);
     let mode = mode_for(vertices.len());
-    let judged = judge_boxed(grid, vertices, boxes, known, second, query, mode);
-    let answer = judged.answer;
+    let answer = judge_indexed(
+        grid,
+        vertices,
+        boxes,
+        rays,
+        spans,
+        list,
+        index,
+        known,
+        second,
+        query,
+        mode,
+    );
     store_result(results, at, answer)
 }
 
-// Every query of a feed whose checks have passed, by the boxes beside the polygon.
+// Every query of a feed, by an index.
+fn judge_all(
+    grid: Grid,
+    vertices: &[i32],
+    boxes: &[i32],
+    rays: &[i32],
+    spans: &[u16],
+    list: &[u16],
+    index: Index,
+    known: Point,
+    second: Point,
+    queries: &[u8],
+    results: &mut [u8],
+)
+    requires { ⌜ (optionalCheck (limitOf grid) (now vertices) known second ≡ Passed)
+        × Boxed (now vertices) (now boxes) ⌝ }
+    requires { ⌜ IndexOn (now vertices) known (now rays) (now spans) (now list) index ⌝ }
+    requires { ⌜ roomNeeded (now queries) ≤ length (now results) ⌝ }
+    ensures { λ _. ⌜ now (results .exit) ≡ sets (now (results .entry)) 0
+        (feedBytes (limitOf grid) (now (vertices .entry)) known second (now (queries .entry))) ⌝ }
+{
+    let n = queries.len() / 12;
+    for i in 0..n {
+        judge_one(
+            grid,
+            vertices,
+            boxes,
+            rays,
+            spans,
+            list,
+            index,
+            known,
+            second,
+            queries,
+            i,
+            results,
+        );
+    }
+}
+
+// The same by an index that is built first. Its arrays are on the stack here, where short feeds do not come.
+fn judge_by_index(
+    grid: Grid,
+    vertices: &[i32],
+    boxes: &[i32],
+    known: Point,
+    second: Point,
+    queries: &[u8],
+    results: &mut [u8],
+)
+    requires { ⌜ (optionalCheck (limitOf grid) (now vertices) known second ≡ Passed)
+        × Boxed (now vertices) (now boxes) ⌝ }
+    requires { ⌜ roomNeeded (now queries) ≤ length (now results) ⌝ }
+    ensures { λ _. ⌜ now (results .exit) ≡ sets (now (results .entry)) 0
+        (feedBytes (limitOf grid) (now (vertices .entry)) known second (now (queries .entry))) ⌝ }
+{
+    let mut rays = [0i32; 3840];
+    let mut spans = [0u16; 1280];
+    let mut list = [0u16; 11264];
+    let mut stack = [0u16; 8192];
+    let index = build(
+        grid,
+        vertices,
+        known,
+        &mut rays,
+        &mut spans,
+        &mut list,
+        &mut stack,
+    );
+    judge_all(
+        grid,
+        vertices,
+        boxes,
+        &rays,
+        &spans,
+        &list,
+        index,
+        known,
+        second,
+        queries,
+        results,
+    )
+}
+
+// Every query of a feed whose checks have passed: by the boxes beside the polygon, or by an index where the feed is
+// long enough to pay for it.
 pub fn judge_each(
     grid: Grid,
     vertices: &[i32],
@@ -133,9 +240,23 @@ pub fn judge_each(
         (feedBytes (limitOf grid) (now (vertices .entry)) known second (now (queries .entry))) ⌝ }
 {
     let n = queries.len() / 12;
-    for i in 0..n {
-        judge_one(grid, vertices, boxes, known, second, queries, i, results);
+    if n >= vertices.len() / 24 + 128 {
+        return judge_by_index(grid, vertices, boxes, known, second, queries, results);
     }
+    let none = [0u16; 1];
+    judge_all(
+        grid,
+        vertices,
+        boxes,
+        boxes,
+        &none,
+        &none,
+        no_index(),
+        known,
+        second,
+        queries,
+        results,
+    )
 }
 
 // The feed from one known point: any records and bytes. The queries have one grid. A refusal changes no byte of the

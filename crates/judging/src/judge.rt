@@ -34,7 +34,7 @@ fn by_parity(crossed: u32, sum: i32) -> Answer
 }
 
 // Boundary, or by parity.
-fn verdict_on(tally: Tally) -> Answer
+pub fn verdict_on(tally: Tally) -> Answer
     ensures { λ r. ⌜ r ≡ verdictOn tally ⌝ }
 {
     match tally {

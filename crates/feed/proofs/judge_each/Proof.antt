@@ -1,65 +1,52 @@
--- `judge_each` meets its contract: before query i the first i results are stored.
-use mathlib.Core.Path.{_≡_, refl, _∙_}
-use Prim.Native.Nat.{_-_, _≤_}
-use native.Mathlib.Omega.{arith}
+-- `judge_each` meets its contract, with an index or none.
 use borrow.Author.Needs.{needs}
-use lib.ListN.{length}
-use lib.Seq.{sets}
-use Rattle.sphere.specs.Point.{limitOf}
-use Rattle.feed.specs.Feed.{queryCount, resultOf, resultsBytes, feedBytes}
-use Rattle.feed.proofs.Laws.Results.{resultBytes-length, results-more}
+use Rattle.cones.proofs.Laws.Index.{none-on}
 use Rattle.feed.proofs.judge_each.Statement.{statement}
 use Rattle.feed.proofs.judge_each.Tie as tie
 
-abbrev Inv-loop : tie.InvT-loop
-Inv-loop grid vertices boxes known second queries results₀ n i₀ results i =
-    (i ≤ n) × (length results ≡ length results₀)
-    × (results ≡ sets results₀ 0 (resultsBytes (resultOf (limitOf grid) vertices known second queries) i))
+add-if1 : tie.Need-add-if1
+add-if1 c = search needs
 
-abbrev μ-loop : tie.MeasureT-loop
-μ-loop grid vertices boxes known second queries results₀ n i₀ results i = n - i
+judge-by-index-requires : tie.Need-judge-by-index-requires
+judge-by-index-requires c κs = c .before .before .before .before .pre
 
-loop-holds : tie.Need-loop-holds Inv-loop μ-loop
-unfolding resultsBytes
-loop-holds c = (omega arith, refl, refl)
+same-length : tie.Need-same-length
+same-length c = search needs
 
-judge-one-requires : tie.Need-judge-one-requires Inv-loop μ-loop
-judge-one-requires c κs = search needs
+returns : tie.Need-returns
+returns c = c .before .before .judge-by-index .ensures
 
-add-i : tie.Need-add-i Inv-loop μ-loop
-add-i c = search needs
+slice-aggregate-judge-all : tie.Need-slice-aggregate-judge-all
+slice-aggregate-judge-all c = search needs
 
-loop-less : tie.Need-loop-less Inv-loop μ-loop
-loop-less c = search needs
+slice-aggregate-judge-all-2 : tie.Need-slice-aggregate-judge-all-2
+slice-aggregate-judge-all-2 c = search needs
 
-loop-again : tie.Need-loop-again Inv-loop μ-loop
-loop-again c =
-    let one = c .before .before .judge-one in
-    let l = c .before .before .before .before .before .loop in
-    let s = c .before .before .before .before .before .before .before .before .args in
-    let result = resultOf (limitOf (s .grid)) (s .vertices .now) (s .known) (s .second) (s .queries .now) in
-    let more = results-more result (λ i. resultBytes-length _) (s .results .now) (l .i) in
-    (omega arith, one .kept .1 .1 .1 .1 .1 .1 .1 .0 ∙ l .inv .1, rw (l .inv .2) at (one .ensures) ∙ more)
+no-index-requires : tie.Need-no-index-requires
+no-index-requires c κs = search needs
 
-same-length : tie.Need-same-length Inv-loop μ-loop
-same-length c = c .before .loop .inv .1
+judge-all-requires : tie.Need-judge-all-requires
+judge-all-requires c κs =
+    let s = c .before .before .before .before .before .before .before in
+    (s .pre .0, (rw (c .before .no-index .ensures) (none-on _ _ _ _ _), s .pre .1))
 
-returns : tie.Need-returns Inv-loop μ-loop
-unfolding feedBytes
-returns c =
-    let e : c .before .loop .i ≡ queryCount (c .before .before .before .before .args .queries .now) = omega arith in
-    rw (← e) (c .before .loop .inv .2)
+same-length-2 : tie.Need-same-length-2
+same-length-2 c = search needs
+
+returns-2 : tie.Need-returns-2
+returns-2 c = c .before .before .judge-all .ensures
 
 pub judge-each-spec : {M : Type 1} → statement M
 judge-each-spec =
     tie.close
     (tie.spec
-    Inv-loop
-    μ-loop
-    loop-holds
-    judge-one-requires
-    add-i
-    loop-less
-    loop-again
+    add-if1
+    judge-by-index-requires
     same-length
-    returns)
+    returns
+    slice-aggregate-judge-all
+    slice-aggregate-judge-all-2
+    no-index-requires
+    judge-all-requires
+    same-length-2
+    returns-2)

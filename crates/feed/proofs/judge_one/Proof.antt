@@ -12,13 +12,13 @@ use Rattle.feed.proofs.judge_one.Statement.{statement}
 use Rattle.feed.proofs.judge_one.Tie as tie
 
 -- The single call's answer.
-answered : (c : tie.After-judge-boxed) →
-    let s = c .before .before .before .before .before .args in
+answered : (c : tie.After-judge-indexed) →
+    let s = c .before .before .before .before .before .before .before .args in
     let P = queryAt (s .queries .now) (s .i) in
-    c .judge-boxed .result .answer ≡ answerOf (limitOf (s .grid)) (s .vertices .now) (judgeFrom (s .known) (s .second) P) P
+    c .judge-indexed .result ≡ answerOf (limitOf (s .grid)) (s .vertices .now) (judgeFrom (s .known) (s .second) P) P
 answered c =
-    let s = c .before .before .before .before .before .args in
-    c .judge-boxed .ensures .0
+    let s = c .before .before .before .before .before .before .before .args in
+    c .judge-indexed .ensures
     ∙ ap (λ P. answerOf (limitOf (s .grid)) (s .vertices .now) (judgeFrom (s .known) (s .second) P) P)
     (c .before .before .point-at .ensures)
 
@@ -31,15 +31,15 @@ point-at-requires c κs = search needs
 mode-for-requires : tie.Need-mode-for-requires
 mode-for-requires c κs = search needs
 
-judge-boxed-requires : tie.Need-judge-boxed-requires
-judge-boxed-requires c κs = search needs
+judge-indexed-requires : tie.Need-judge-indexed-requires
+judge-indexed-requires c κs = let s = c .before .before .before .before .before .before in (s .pre .0, s .pre .1 .0)
 
 store-result-requires : tie.Need-store-result-requires
 store-result-requires c κs =
-    let s = c .before .before .before .before .before .before in
+    let s = c .before .before .before .before .before .before .before .before in
     let i = s .args in
     let accepted = judge-accepted (limitOf (i .grid)) (i .vertices .now) (i .known) (i .second) (s .pre .0 .0) _ in
-    (omega arith, rw (answered (c .before)) (answer-small (limitOf (i .grid)) (i .vertices .now) _ accepted _ .place))
+    (omega (arith, s .pre .1 .1 .0, s .pre .1 .1 .1), rw (answered (c .before)) (answer-small (limitOf (i .grid)) (i .vertices .now) _ accepted _ .place))
 
 same-length : tie.Need-same-length
 same-length c = search needs
@@ -54,7 +54,7 @@ judge-one-spec =
     mul-at
     point-at-requires
     mode-for-requires
-    judge-boxed-requires
+    judge-indexed-requires
     store-result-requires
     same-length
     returns)

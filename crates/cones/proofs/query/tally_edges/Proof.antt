@@ -29,7 +29,7 @@ module _ (c : tie.After-arc-between) where
 
   aimed : AcceptedArc (start .args .vertices .now) (c .arc-between .result)
   aimed =
-      arc-searchable (start .args .grid) (start .args .known) (start .args .query) (start .args .by-boxes)
+      arc-searchable (start .args .grid) (start .args .known) (start .args .query) true
       (start .pre .0 .0) (start .pre .0 .1) (start .pre .0 .2) (c .arc-between .ensures) .aimed
 
 guess-requires : tie.Need-guess-requires
@@ -175,11 +175,11 @@ returns c =
     c .walk-list .ensures
     ∙ ap (λ b. tallyFrom vs (b .from) (b .to) 0 (vertexCount vs)) (a .arc-between .ensures)
 
-tally-edges-requires : tie.Need-tally-edges-requires
-tally-edges-requires c κs = start (c .before .before) .pre .0
+search-edges-requires : tie.Need-search-edges-requires
+search-edges-requires c κs = start (c .before .before) .pre .0
 
 returns-2 : tie.Need-returns-2
-returns-2 c = c .tally-edges .ensures
+returns-2 c = c .search-edges .ensures .0
 
 pub tally-edges-spec : {M : Type 1} → statement M
 tally-edges-spec =
@@ -208,5 +208,5 @@ tally-edges-spec =
     wide-requires-2
     walk-list-requires
     returns
-    tally-edges-requires
+    search-edges-requires
     returns-2)

@@ -1,0 +1,71 @@
+-- `judge_by_index` meets its contract: the index is the polygon's, from the known point.
+use mathlib.Core.Path.{_≡_}
+use native.Mathlib.Nat.{le-trans}
+use borrow.Author.Needs.{needs}
+use Rattle.sphere.specs.Point.{limitOf}
+use Rattle.answer.specs.declared.Check.the-variants.{Passed}
+use Rattle.polygon.specs.Checks.{acceptCheck}
+use Rattle.polygon.proofs.Laws.Checks.{accept-passed}
+use Rattle.polygon.proofs.Laws.Pair.{optional-first}
+use Rattle.feed.proofs.judge_by_index.Statement.{statement}
+use Rattle.feed.proofs.judge_by_index.Tie as tie
+
+-- The known point is accepted.
+accepted : (s : tie.Start) → acceptCheck (limitOf (s .args .grid)) (s .args .vertices .now) (s .args .known) ≡ Passed
+accepted s =
+    optional-first (limitOf (s .args .grid)) (s .args .vertices .now) (s .args .known) (s .args .second) (s .pre .0 .0)
+
+slice-aggregate-build : tie.Need-slice-aggregate-build
+slice-aggregate-build c = search needs
+
+slice-aggregate-build-2 : tie.Need-slice-aggregate-build-2
+slice-aggregate-build-2 c = search needs
+
+slice-aggregate-build-3 : tie.Need-slice-aggregate-build-3
+slice-aggregate-build-3 c = search needs
+
+slice-aggregate-build-4 : tie.Need-slice-aggregate-build-4
+slice-aggregate-build-4 c = search needs
+
+-- The stack has room for all edges.
+build-requires : tie.Need-build-requires
+build-requires c κs =
+    let s = c .before .before .before .before .before .before in
+    (accepted s, le-trans (accept-passed (accepted s) .listed .most) (search needs))
+
+slice-aggregate-judge-all : tie.Need-slice-aggregate-judge-all
+slice-aggregate-judge-all c = search needs
+
+slice-aggregate-judge-all-2 : tie.Need-slice-aggregate-judge-all-2
+slice-aggregate-judge-all-2 c = search needs
+
+slice-aggregate-judge-all-3 : tie.Need-slice-aggregate-judge-all-3
+slice-aggregate-judge-all-3 c = search needs
+
+judge-all-requires : tie.Need-judge-all-requires
+judge-all-requires c κs =
+    let b = c .before .before .before .before .before .before .before .before in
+    let s = b .before .before .before .before .before .before .before in
+    (s .pre .0, (b .build .ensures, s .pre .1))
+
+same-length : tie.Need-same-length
+same-length c = search needs
+
+returns : tie.Need-returns
+returns c = c .before .before .judge-all .ensures
+
+pub judge-by-index-spec : {M : Type 1} → statement M
+judge-by-index-spec =
+    tie.close
+    (tie.spec
+    slice-aggregate-build
+    slice-aggregate-build-2
+    slice-aggregate-build-3
+    slice-aggregate-build-4
+    build-requires
+    slice-aggregate-judge-all
+    slice-aggregate-judge-all-2
+    slice-aggregate-judge-all-3
+    judge-all-requires
+    same-length
+    returns)

@@ -1,0 +1,61 @@
+// One query by the feed's index. Here: judge_indexed.
+ghost use mathlib.Core.Path.{_≡_};
+ghost use Rattle.sphere.specs.Point.{limitOf};
+ghost use Rattle.answer.specs.declared.Check.the-variants.{Passed};
+ghost use Rattle.polygon.specs.Pair.{judgeFrom, optionalCheck};
+ghost use Rattle.polygon.specs.Verdict.{answerOf};
+ghost use Rattle.search.specs.Boxes.{Boxed};
+ghost use Rattle.cones.specs.Table.{IndexOn};
+use answer::Answer;
+use cones::build::Index;
+use cones::query::tally_edges;
+use judging::judge::judge_boxed;
+use judging::judge::verdict_on;
+use search::walk::Mode;
+use sphere::direction::antipodal;
+use sphere::point::Grid;
+use sphere::point::Point;
+use sphere::point::is_off_grid;
+
+// The index is of the known point, and of queries on the grid that are not antipodal to it. The others, and all where
+// it has no nodes, are judged by the boxes.
+pub fn judge_indexed(
+    grid: Grid,
+    vertices: &[i32],
+    boxes: &[i32],
+    rays: &[i32],
+    spans: &[u16],
+    list: &[u16],
+    index: Index,
+    known: Point,
+    second: Point,
+    query: Point,
+    mode: Mode,
+) -> Answer
+    requires { ⌜ (optionalCheck (limitOf grid) (now vertices) known second ≡ Passed)
+        × Boxed (now vertices) (now boxes) ⌝ }
+    requires { ⌜ IndexOn (now vertices) known (now rays) (now spans) (now list) index ⌝ }
+    ensures { λ r. ⌜ r ≡ answerOf (limitOf grid) (now (vertices .entry)) (judgeFrom known second query) query ⌝ }
+{
+    if index.nodes == 0 {
+        return judge_boxed(grid, vertices, boxes, known, second, query, mode).answer;
+    }
+    if is_off_grid(grid, query) {
+        return judge_boxed(grid, vertices, boxes, known, second, query, mode).answer;
+    }
+    if antipodal(known, query) {
+        return judge_boxed(grid, vertices, boxes, known, second, query, mode).answer;
+    }
+    verdict_on(tally_edges(
+        grid,
+        vertices,
+        boxes,
+        rays,
+        spans,
+        list,
+        index,
+        known,
+        query,
+        mode,
+    ))
+}
