@@ -87,7 +87,7 @@ fn asked(random: &mut Random, grid: Grid, known: Point, vertices: &[Point], n: u
     (0..n).map(one).collect()
 }
 
-/// Known points amid the outline, beside it and far from it. Those on a side's circle are refused, and tell nothing here.
+/// Known points amid the outline, beside it and far from it. Those on a side's circle are refused, and tell nothing.
 fn compare(random: &mut Random, grid: Grid, vertices: &[Point]) {
     let limit = grid.limit();
     let knowns = [[7, -3, limit], [limit / 3, limit / 5 + 1, limit], [limit, 3 - limit, -5], [11, 2, -limit]];

@@ -38,8 +38,10 @@ store-result-requires : tie.Need-store-result-requires
 store-result-requires c κs =
     let s = c .before .before .before .before .before .before .before .before in
     let i = s .args in
-    let accepted = judge-accepted (limitOf (i .grid)) (i .vertices .now) (i .known) (i .second) (s .pre .0 .0) _ in
-    (omega (arith, s .pre .1 .1 .0, s .pre .1 .1 .1), rw (answered (c .before)) (answer-small (limitOf (i .grid)) (i .vertices .now) _ accepted _ .place))
+    let accepted = judge-accepted (limitOf (i .grid)) (i .vertices .now) (i .known) (i .second) (s .pre .0 .0) _ in (
+      omega (arith, s .pre .1 .1 .0, s .pre .1 .1 .1),
+      rw (answered (c .before)) (answer-small (limitOf (i .grid)) (i .vertices .now) _ accepted _ .place),
+    )
 
 same-length : tie.Need-same-length
 same-length c = search needs
