@@ -90,15 +90,17 @@ fn asked(random: &mut Random, grid: Grid, known: Point, vertices: &[Point], n: u
 /// Known points amid the outline, beside it and far from it. Those on a side's circle are refused, and tell nothing.
 fn compare(random: &mut Random, grid: Grid, vertices: &[Point]) {
     let limit = grid.limit();
-    let knowns = [[7, -3, limit], [limit / 3, limit / 5 + 1, limit], [limit, 3 - limit, -5], [11, 2, -limit]];
-    for known in knowns {
+    let knowns = [[7, -3, limit], [11, 2, -limit], [limit / 3, limit / 5 + 1, limit], [limit, 3 - limit, -5]];
+    // Long outlines are slow to compare, so with fewer of both.
+    let long = vertices.len() > 1_000;
+    for known in knowns.into_iter().take(if long { 2 } else { 4 }) {
         let sheet = Sheet::new(known, vertices).on(grid).bytes();
         if library::number(&sheet, [1, 1, limit]) > 9 {
             continue;
         }
         let n = threshold(vertices.len());
-        let asked = asked(random, grid, known, vertices, n + 40);
-        for n in [n - 1, n, n + 40] {
+        let asked = asked(random, grid, known, vertices, n + 1);
+        for n in if long { n..=n } else { n - 1..=n + 1 } {
             equals_single_calls(&sheet, &asked[..n], 0);
         }
     }
