@@ -223,7 +223,8 @@ fn judge_by_index(
 }
 
 // Every query of a feed whose checks have passed: by the boxes beside the polygon, or by an index where the feed is
-// long enough to pay for it.
+// long enough to pay for it. A case for each grid: the compiler takes a function with one caller into that, and its
+// arrays into the stack of short feeds.
 pub fn judge_each(
     grid: Grid,
     vertices: &[i32],
@@ -241,7 +242,22 @@ pub fn judge_each(
 {
     let n = queries.len() / 12;
     if n >= vertices.len() / 24 + 128 {
-        return judge_by_index(grid, vertices, boxes, known, second, queries, results);
+        match grid {
+            Grid::Coarse => {
+                return judge_by_index(
+                    Grid::Coarse,
+                    vertices,
+                    boxes,
+                    known,
+                    second,
+                    queries,
+                    results,
+                );
+            }
+            Grid::Fine => {
+                return judge_by_index(Grid::Fine, vertices, boxes, known, second, queries, results);
+            }
+        }
     }
     let none = [0u16; 1];
     judge_all(

@@ -7,14 +7,33 @@ use Rattle.feed.proofs.judge_each.Tie as tie
 add-if1 : tie.Need-add-if1
 add-if1 c = search needs
 
+enum-told : tie.Need-enum-told
+enum-told c = search needs
+
 judge-by-index-requires : tie.Need-judge-by-index-requires
-judge-by-index-requires c κs = c .before .before .before .before .pre
+judge-by-index-requires c κs =
+    rw (c .before .enum-told .given .1) at (c .before .before .before .before .before .before .pre)
 
 same-length : tie.Need-same-length
 same-length c = search needs
 
 returns : tie.Need-returns
-returns c = c .before .before .judge-by-index .ensures
+returns c =
+    let f = c .before .before in rw (f .before .before .enum-told .given .1) (f .judge-by-index .ensures)
+
+enum-told-2 : tie.Need-enum-told-2
+enum-told-2 c = search needs
+
+judge-by-index-requires-2 : tie.Need-judge-by-index-requires-2
+judge-by-index-requires-2 c κs =
+    rw (c .before .enum-told2 .given .1) at (c .before .before .before .before .before .before .pre)
+
+same-length-2 : tie.Need-same-length-2
+same-length-2 c = search needs
+
+returns-2 : tie.Need-returns-2
+returns-2 c =
+    let f = c .before .before in rw (f .before .before .enum-told2 .given .1) (f .judge-by-index2 .ensures)
 
 slice-aggregate-judge-all : tie.Need-slice-aggregate-judge-all
 slice-aggregate-judge-all c = search needs
@@ -30,23 +49,28 @@ judge-all-requires c κs =
     let s = c .before .before .before .before .before .before .before in
     (s .pre .0, (rw (c .before .no-index .ensures) (none-on _ _ _ _ _), s .pre .1))
 
-same-length-2 : tie.Need-same-length-2
-same-length-2 c = search needs
+same-length-3 : tie.Need-same-length-3
+same-length-3 c = search needs
 
-returns-2 : tie.Need-returns-2
-returns-2 c = c .before .before .judge-all .ensures
+returns-3 : tie.Need-returns-3
+returns-3 c = c .before .before .judge-all .ensures
 
 pub judge-each-spec : {M : Type 1} → statement M
 judge-each-spec =
     tie.close
     (tie.spec
     add-if1
+    enum-told
     judge-by-index-requires
     same-length
     returns
+    enum-told-2
+    judge-by-index-requires-2
+    same-length-2
+    returns-2
     slice-aggregate-judge-all
     slice-aggregate-judge-all-2
     no-index-requires
     judge-all-requires
-    same-length-2
-    returns-2)
+    same-length-3
+    returns-3)
