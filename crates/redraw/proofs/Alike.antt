@@ -1,7 +1,7 @@
 -- Two lists with the same edges, by directions and whichever way they are walked, give the same verdicts. Defined:
 -- SameEdges (equal counts of every EdgeTest), Alike (what two lists' verdicts share), Bordered (a border edge holds the
 -- query). Proved, in order: started-same, reversed-same, lengthened-same; alike-undone, alike-next; off-count,
--- count-off; class-same, class-border, clear-by; same-alike.
+-- count-off; class-border, clear-by; same-alike.
 use mathlib.Core.Path.{_≡_, refl, sym, _∙_, ap, ap₂, fun-ext}
 use mathlib.Core.Bool.{Bool, true, false, _&&_, true≢false}
 use mathlib.Core.List.{List}
@@ -15,7 +15,6 @@ use Rattle.sphere.specs.Orientation.{orientationOf}
 use Rattle.sphere.specs.Crossing.{crossesOf}
 use Rattle.sphere.specs.OnEdge.{isOnEdge}
 use Rattle.polygon.specs.Border.{joinsOf, isCoincident, coincidentOf, isBorder}
-use Rattle.polygon.proofs.Laws.Joined.{joins-sym}
 use Rattle.answer.specs.declared.Found.the-variants.{Nothing}
 use Rattle.answer.specs.Search.{countFrom}
 use Rattle.answer.proofs.Laws.Search.{first-none}
@@ -29,6 +28,7 @@ use Rattle.polygon.proofs.Laws.Reversed.{reversed-count, reversed-mirrored}
 use Rattle.polygon.proofs.Laws.Checks.{OffCircles}
 use Rattle.redraw.specs.Redraw.{startedAt, Lengthened}
 use Rattle.redraw.proofs.Directions.{EdgeTest, joined-test, crosses-test, joins-test, onCircle, circle-test}
+pub use Rattle.polygon.proofs.Laws.Directions.{class-same}
 use Rattle.redraw.proofs.Directions.{off→none, none→off, joined-on}
 use Rattle.redraw.proofs.Rings.{edgeCount, one, count-edges, started-sum}
 use Rattle.redraw.proofs.Counts.{count-same, Some, count-zero, odd-some}
@@ -112,14 +112,6 @@ module _ (vs : List ℤ) (X : Point) where
       (count-zero (λ i. onCircle X (startOf vs i) (endOf vs i)) 0 (vertexCount vs) h i (omega arith) (omega arith))
 
 -- ---- the edges that join two directions: if they are odd in number and hold P, one of them is border and holds P
-pub class-same : (vs : List ℤ) (A B C D : Point) → joinsOf C D A B ≡ true → coincidentOf vs A B ≡ coincidentOf vs C D
-unfolding coincidentOf
-class-same vs A B C D j =
-    ap (λ t. countFrom t 0 (vertexCount vs)) (fun-ext (λ i. joined (startOf vs i) (endOf vs i)))
-  where
-    joined : (U W : Point) → joinsOf A B U W ≡ joinsOf C D U W
-    joined U W = joins-sym A B U W ∙ sym (joined-test (joinsOf U W) (joins-test U W) C D A B j) ∙ joins-sym U W C D
-
 abbrev pub Bordered : List ℤ → Point → Type 0
 Bordered vs P = Some (isOnBorder vs P) 0 (vertexCount vs)
 

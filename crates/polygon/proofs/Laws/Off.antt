@@ -1,13 +1,15 @@
--- Points off a direction, by the first number of the cross product. Proved, in order: off-not-same, off-not-joined (an
+-- Points off a direction, by one number of the cross product. Proved, in order: off-not-same, off-not-joined (an
 -- edge with both ends off C joins no direction to C's); off-start, off-step, off-elsewhere, elsewhere-none (as a loop
--- goes).
-use mathlib.Core.Path.{_≡_, refl, sym}
-use mathlib.Core.Bool.{Bool, true, false, not, true≢false}
+-- goes); unjoined-start, unjoined-append, unjoined-step, counted-one, counted-none (edges);
+-- joined-more, joined-rest (how many).
+use mathlib.Core.Path.{_≡_, refl, sym, _∙_}
+use mathlib.Core.Logic.{_⊎_, inl, inr, ⊎-elim}
+use mathlib.Core.Bool.{Bool, true, false, not, _&&_, cond, true≢false}
 use mathlib.Core.List.{List}
-use Prim.Native.Nat.{ℕ, _+_, _≤_, _<_}
+use Prim.Native.Nat.{ℕ, _+_, _-_, _≤_, _<_}
 use native.Mathlib.Omega.{arith}
 use borrow.Author.Tests.{ltb-true, ltb-false}
-use lib.Dec.{ltb}
+use lib.Dec.{eqb, ltb}
 use lib.IntN.{ℤ}
 use Rattle.integers.specs.Sign.{signOf, isZero}
 use Rattle.sphere.specs.declared.point.Point.{Point}
@@ -15,34 +17,51 @@ use Rattle.sphere.specs.Point.{isNull}
 use Rattle.sphere.specs.Orientation.{crossOf}
 use Rattle.sphere.specs.Direction.{isSameDirection}
 use Rattle.polygon.specs.Vertices.{vertexCount, vertexAt, startOf, endOf}
-use Rattle.polygon.specs.Border.{joinsOf, isOff, OffBetween, Elsewhere}
+use Rattle.polygon.specs.Border.{joinsOf, isCoincident, isOff, OffBetween, Elsewhere}
+use Rattle.polygon.specs.Border.{Unjoined, NextJoined}
+use Rattle.answer.specs.Search.{countFrom}
+use Rattle.answer.proofs.Laws.Blocks.{count-append, count-none}
 use Rattle.polygon.proofs.Laws.Edges.{next-start}
 
 not-true : (b : Bool) → not b ≡ true → b ≡ false
 not-true true e = absurd (true≢false (sym e))
 not-true false e = refl
 
-pub off-not-same : (C P : Point) → isOff C P ≡ true → isSameDirection C P ≡ false
-unfolding isSameDirection isNull
-off-not-same C P e = rw (not-true (isZero (signOf (crossOf C P .x))) e)
+zero-and : (x y z q : Bool) → (x ≡ false) ⊎ (y ≡ false) ⊎ (z ≡ false) → ((x && (y && z)) && q) ≡ false
+zero-and false y z q h = refl
+zero-and true false z q h = refl
+zero-and true true false q h = refl
+zero-and true true true q h = absurd (true≢false (⊎-elim (λ e. e) (λ h. ⊎-elim (λ e. e) (λ e. e) h) h))
 
-pub off-not-joined : (C D A B : Point) → isOff C A ≡ true → isOff C B ≡ true → joinsOf C D A B ≡ false
+pub off-not-same : (axis : ℕ) (C P : Point) → isOff axis C P ≡ true → isSameDirection C P ≡ false
+unfolding isSameDirection isNull
+off-not-same axis C P e = zero-and _ _ _ _ (go (eqb axis 0) (eqb axis 1) e)
+  where
+    go : (s t : Bool) → not (isZero (signOf (cond s (crossOf C P .x) (cond t (crossOf C P .y) (crossOf C P .z))))) ≡ true →
+        (isZero (signOf (crossOf C P .x)) ≡ false)
+        ⊎ (isZero (signOf (crossOf C P .y)) ≡ false) ⊎ (isZero (signOf (crossOf C P .z)) ≡ false)
+    go true t e = inl (not-true _ e)
+    go false true e = inr (inl (not-true _ e))
+    go false false e = inr (inr (not-true _ e))
+
+pub off-not-joined : (axis : ℕ) (C D A B : Point) → isOff axis C A ≡ true → isOff axis C B ≡ true →
+    joinsOf C D A B ≡ false
 unfolding joinsOf
-off-not-joined C D A B a b = rw (off-not-same C A a, off-not-same C B b)
+off-not-joined axis C D A B a b = rw (off-not-same axis C A a, off-not-same axis C B b)
 
 -- ---- as a loop over the vertices goes
-module _ {vs : List ℤ} {C : Point} {i : ℕ} where
-  pub off-start : OffBetween vs C i i
+module _ {vs : List ℤ} {axis : ℕ} {C : Point} {i : ℕ} where
+  pub off-start : OffBetween vs axis C i i
   off-start = record { after = omega arith; each = λ j h l. absurd (omega (arith, h, l)) }
 
-  module _ {at : ℕ} (o : OffBetween vs C i at) where
-    pub off-step : isOff C (vertexAt vs at) ≡ true → OffBetween vs C i (at + 1)
+  module _ {at : ℕ} (o : OffBetween vs axis C i at) where
+    pub off-step : isOff axis C (vertexAt vs at) ≡ true → OffBetween vs axis C i (at + 1)
     off-step e = record {
       after = omega (arith, o .after);
       each = λ j h l. go (ltb j at) refl h l;
     }
       where
-        go : (t : Bool) {j : ℕ} → ltb j at ≡ t → i ≤ j → j < at + 1 → isOff C (vertexAt vs j) ≡ true
+        go : (t : Bool) {j : ℕ} → ltb j at ≡ t → i ≤ j → j < at + 1 → isOff axis C (vertexAt vs j) ≡ true
         go true {j} t h l = o .each j h (ltb-true j at t)
         go false {j} t h l = let last : j ≡ at = omega (arith, ltb-false j at t, l) in rw last e
 
@@ -50,9 +69,65 @@ module _ {vs : List ℤ} {C : Point} {i : ℕ} where
     pub off-elsewhere : (last : ℕ) → i ≤ last → last + 1 ≡ at → at ≤ vertexCount vs → Elsewhere vs C i last
     off-elsewhere last h e m = record {
       after = h;
-      each = λ D j k l. off-not-joined C D (startOf vs j) (endOf vs j) (o .each j k (omega (arith, l, e)))
+      each = λ D j k l. off-not-joined axis C D (startOf vs j) (endOf vs j) (o .each j k (omega (arith, l, e)))
           (rw (next-start vs j (j + 1) refl (omega (arith, l, e, m))) (o .each (j + 1) (omega (arith, k)) (omega (arith, l, e))));
     }
 
 pub elsewhere-none : {vs : List ℤ} {C : Point} {i to : ℕ} → i ≤ to → to ≤ i → Elsewhere vs C i to
 elsewhere-none h e = record { after = h; each = λ D j k l. absurd (omega (arith, h, e, k, l)) }
+
+-- ---- edges that do not join the directions of C and D
+module _ {vs : List ℤ} {C D : Point} {i : ℕ} where
+  pub unjoined-start : Unjoined vs C D i i
+  unjoined-start = record { after = omega arith; each = λ j h l. absurd (omega (arith, h, l)) }
+
+  module _ {at : ℕ} (u : Unjoined vs C D i at) where
+    pub unjoined-append : {to : ℕ} → Unjoined vs C D at to → Unjoined vs C D i to
+    unjoined-append {to} v = record {
+      after = omega (arith, u .after, v .after);
+      each = λ j h l. go (ltb j at) refl h l;
+    }
+      where
+        go : (t : Bool) {j : ℕ} → ltb j at ≡ t → i ≤ j → j < to → isCoincident vs C D j ≡ false
+        go true {j} t h l = u .each j h (ltb-true j at t)
+        go false {j} t h l = v .each j (ltb-false j at t) l
+
+    pub unjoined-step : isCoincident vs C D at ≡ false → Unjoined vs C D i (at + 1)
+    unjoined-step e = unjoined-append (record { after = omega arith; each = λ j h l. one j h l })
+      where
+        one : (j : ℕ) → at ≤ j → j < at + 1 → isCoincident vs C D j ≡ false
+        one j h l = let last : j ≡ at = omega arith in rw last e
+
+-- What one edge adds to a count.
+pub counted-one : (t : Bool) {r : ℕ} → r ≡ cond t 1 0 → r ≡ 1 → t ≡ true
+counted-one true e k = refl
+counted-one false e k = absurd (omega (arith, e, k))
+
+pub counted-none : (t : Bool) {r : ℕ} → r ≡ cond t 1 0 → (r ≡ 1 → ⊥) → t ≡ false
+counted-none true e k = absurd (k e)
+counted-none false e k = refl
+
+-- ---- counting from one to the next
+module _ {vs : List ℤ} {C D : Point} {j to at : ℕ} (next : NextJoined vs C D j to at) {from count : ℕ} (h : from ≤ j)
+    (e : countFrom (isCoincident vs C D) from (j - from) ≡ count) where
+  abbrev test : ℕ → Bool
+  test = isCoincident vs C D
+
+  here : from + (j - from) ≡ j
+  here = omega arith
+
+  none : countFrom test j (at - j) ≡ 0
+  none = count-none test j (at - j) (λ k l m. next .passed .each k l (omega (arith, l, m)))
+
+  pub joined-more : at < to → countFrom test from (at + 1 - from) ≡ count + 1
+  unfolding countFrom
+  joined-more l =
+      let on : at + 1 - from ≡ (j - from) + ((at - j) + 1) = omega (arith, next .passed .after) in
+      let there : j + (at - j) ≡ at = omega (arith, next .passed .after) in
+      rw on (count-append test from (j - from) ((at - j) + 1)
+      ∙ rw (here, e, count-append test j (at - j) 1, there, none, next .joined l) (omega arith))
+
+  pub joined-rest : to ≤ at → countFrom test from (to - from) ≡ count
+  joined-rest l =
+      let on : to - from ≡ (j - from) + (at - j) = omega (arith, next .passed .after, next .before) in
+      rw on (count-append test from (j - from) (at - j) ∙ rw (here, e, none) (omega arith))

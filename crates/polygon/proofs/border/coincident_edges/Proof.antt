@@ -1,17 +1,15 @@
--- `coincident_edges` meets its contract: the edges from j on, before the next that is tested, are not counted.
-use mathlib.Core.Path.{_≡_, sym, _∙_, ap}
-use mathlib.Core.Bool.{Bool, false, cond}
+-- `coincident_edges` meets its contract: the edges from j on, before the next that does, do not join the two.
+use mathlib.Core.Path.{_≡_, sym}
+use mathlib.Core.Bool.{Bool}
 use mathlib.Core.List.{List}
-use Prim.Native.Nat.{ℕ, _+_, _-_, _≤_, _<_}
+use Prim.Native.Nat.{ℕ, _+_, _-_, _≤_}
 use native.Mathlib.Omega.{arith}
-use borrow.Author.Needs.{needs}
 use lib.IntN.{ℤ}
 use Rattle.sphere.specs.declared.point.Point.{Point}
 use Rattle.answer.specs.Search.{countFrom}
-use Rattle.polygon.specs.Vertices.{vertexCount}
 use Rattle.polygon.specs.Border.{isCoincident}
-use Rattle.answer.proofs.Laws.First.{Each}
-use Rattle.answer.proofs.Laws.Blocks.{count-append, count-bound, count-none}
+use Rattle.answer.proofs.Laws.Blocks.{count-bound}
+use Rattle.polygon.proofs.Laws.Off.{joined-more, joined-rest}
 use Rattle.polygon.proofs.border.coincident_edges.Statement.{statement}
 use Rattle.polygon.proofs.border.coincident_edges.Tie as tie
 
@@ -45,74 +43,62 @@ module _ (c : tie.In-loop Inv-loop μ-loop) where
   abbrev j : ℕ
   j = c .before .loop .j
 
-next-edge-requires : tie.Need-next-edge-requires Inv-loop μ-loop
-next-edge-requires c κs = let s = entry c in (s .pre .0 .1, s .pre .0 .2, c .loop-test .taken, s .pre .1 .1)
+next-coincident-requires : tie.Need-next-coincident-requires Inv-loop μ-loop
+next-coincident-requires c κs = let s = entry c in (s .pre .0, (c .before .loop .inv .before, s .pre .1 .1))
 
-module _ (c : tie.After-next-edge Inv-loop μ-loop) where
-  abbrev edge : ℕ
-  edge = c .next-edge .result
-
-  more : edge < vertexCount (entry (c .before) .args .vertices .now)
-  more = omega (arith, c .next-edge .ensures .1, entry (c .before) .pre .1 .1)
-
-coincident-requires : tie.Need-coincident-requires Inv-loop μ-loop
-coincident-requires c κs = let s = entry (c .before) in (s .pre .0 .1, more c, s .pre .0 .2, s .pre .0 .3)
-
--- Edge i is tested; those from j on before it are not counted.
-one-more : (test : ℕ → Bool) (from j i count : ℕ) {r : ℕ} → from ≤ j → j ≤ i →
-    countFrom test from (j - from) ≡ count → Each (λ k. test k ≡ false) j (i - j) → r ≡ cond (test i) 1 0 →
-    countFrom test from (i + 1 - from) ≡ count + r
-unfolding countFrom
-one-more test from j i count h l e none r =
-    let on : i + 1 - from ≡ (j - from) + ((i - j) + 1) = omega arith in
-    let here : from + (j - from) ≡ j = omega arith in
-    let there : j + (i - j) ≡ i = omega arith in
-    rw (on, r) (count-append test from (j - from) ((i - j) + 1)
-    ∙ rw (here, e, count-append test j (i - j) 1, there, count-none test j (i - j) none) (omega arith))
-
-module _ (c : tie.After-coincident Inv-loop μ-loop) where
-  abbrev next : tie.After-next-edge Inv-loop μ-loop
-  next = c .before
-
+module _ (c : tie.After-next-coincident Inv-loop μ-loop) where
   abbrev s : tie.Start Inv-loop μ-loop
-  s = entry (next .before)
+  s = entry (c .before)
 
   abbrev test : ℕ → Bool
   test = isCoincident (s .args .vertices .now) (s .args .c) (s .args .d)
 
-  counted : countFrom test (s .args .from) (edge next + 1 - s .args .from)
-      ≡ next .before .before .loop .count + c .coincident .result
+  abbrev edge : ℕ
+  edge = c .next-coincident .result
+
+returns : tie.Need-returns Inv-loop μ-loop
+returns c =
+    let n = c .before in
+    let inv = n .before .before .loop .inv in
+    sym (joined-rest (n .next-coincident .ensures) (inv .after) (inv .counted) (c .if1 .taken))
+
+module _ (c : tie.Else1 Inv-loop μ-loop) where
+  abbrev next : tie.After-next-coincident Inv-loop μ-loop
+  next = c .before
+
+  counted : countFrom (test next) (s next .args .from) (edge next + 1 - s next .args .from)
+      ≡ next .before .before .loop .count + 1
   counted =
       let inv = next .before .before .loop .inv in
-      let free = next .next-edge .ensures .0 in
-      one-more test (s .args .from) (j (next .before)) (edge next) (next .before .before .loop .count) (inv .after)
-      (free .after) (inv .counted) (λ k h l. free .each (s .args .d) k h (omega (arith, h, l))) (c .coincident .ensures)
+      joined-more (next .next-coincident .ensures) (inv .after) (inv .counted) (c .if1 .left)
 
-  few : next .before .before .loop .count + c .coincident .result ≤ 4096
-  few =
-      let from = s .args .from in
-      omega (arith, counted, count-bound test from (edge next + 1 - from), more next, s .pre .0 .0 .most)
+  few : edge next + 1 ≤ 4096
+  few = omega (arith, c .if1 .left, s next .pre .1 .1, s next .pre .0 .0 .most)
 
 add-count : tie.Need-add-count Inv-loop μ-loop
-add-count c = omega (arith, few c)
+add-count c =
+    let from = s (next c) .args .from in
+    omega (arith, counted c, count-bound (test (next c)) from (edge (next c) + 1 - from), few c)
 
 add-j : tie.Need-add-j Inv-loop μ-loop
-add-j c = omega (arith, more (next c), s c .pre .0 .0 .most)
+add-j c = omega (arith, few c)
 
 loop-less : tie.Need-loop-less Inv-loop μ-loop
-loop-less c = let n = next c in omega (arith, n .before .loop-test .taken, n .next-edge .ensures .0 .after)
+loop-less c =
+    let n = next c in
+    omega (arith, n .before .loop-test .taken, n .next-coincident .ensures .passed .after)
 
 loop-again : tie.Need-loop-again Inv-loop μ-loop
 loop-again c =
     let n = next c in
     record {
-      after = omega (arith, n .before .before .loop .inv .after, n .next-edge .ensures .0 .after);
-      before = omega (arith, n .next-edge .ensures .1);
+      after = omega (arith, n .before .before .loop .inv .after, n .next-coincident .ensures .passed .after);
+      before = omega (arith, c .if1 .left);
       counted = counted c;
     }
 
-returns : tie.Need-returns Inv-loop μ-loop
-returns c =
+returns-2 : tie.Need-returns-2 Inv-loop μ-loop
+returns-2 c =
     let l = c .before in
     let s = l .before .args in
     let all : l .loop .j ≡ s .to = omega (arith, c .loop-test .left, l .loop .inv .before) in
@@ -125,10 +111,10 @@ coincident-edges-spec =
     Inv-loop
     μ-loop
     loop-holds
-    next-edge-requires
-    coincident-requires
+    next-coincident-requires
+    returns
     add-count
     add-j
     loop-less
     loop-again
-    returns)
+    returns-2)

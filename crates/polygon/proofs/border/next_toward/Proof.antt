@@ -12,10 +12,10 @@ use Rattle.polygon.proofs.border.next_toward.Statement.{statement}
 use Rattle.polygon.proofs.border.next_toward.Tie as tie
 
 abbrev Inv-loop : tie.InvT-loop
-Inv-loop vertices c i to at₀ at = OffBetween vertices c i at × (at ≤ to)
+Inv-loop vertices axis c i to at₀ at = OffBetween vertices axis c i at × (at ≤ to)
 
 abbrev μ-loop : tie.MeasureT-loop
-μ-loop vertices c i to at₀ at = to - at
+μ-loop vertices axis c i to at₀ at = to - at
 
 loop-holds : tie.Need-loop-holds Inv-loop μ-loop
 loop-holds c = (off-start, c .pre .2)
@@ -34,10 +34,11 @@ returns c = c .before .before .before .before .loop .inv
 
 off : (c : tie.After-is-off Inv-loop μ-loop) → c .is-off .result ≡ true →
     let l = c .before .before .before in
-    isOff (l .before .args .c) (vertexAt (l .before .args .vertices .now) (l .loop .at)) ≡ true
+    isOff (l .before .args .axis) (l .before .args .c) (vertexAt (l .before .args .vertices .now) (l .loop .at)) ≡ true
 off c e =
     let v = c .before in
-    ap (isOff (v .before .before .before .args .c)) (sym (v .vertex-at .ensures)) ∙ sym (c .is-off .ensures) ∙ e
+    let s = v .before .before .before .args in
+    ap (isOff (s .axis) (s .c)) (sym (v .vertex-at .ensures)) ∙ sym (c .is-off .ensures) ∙ e
 
 add-at : tie.Need-add-at Inv-loop μ-loop
 add-at c = search needs
