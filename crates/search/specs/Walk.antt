@@ -1,6 +1,7 @@
 -- Document 02, P2: what a walk over some edges says, and the number of edges looked at. Defined, in order: testBy (one
--- edge); tallyBy, tallyFrom; isLooked, reach, lookedFrom; asksBoxes, lookedIn (by the mode), reachOf, Among, isLookedBy
+-- edge); tallyBy, tallyFrom; NoneBefore; isLooked, reach, lookedFrom; asksBoxes, lookedIn (by the mode), reachOf, Among, isLookedBy
 -- (as they are worked out). A walk goes over k edges from i on.
+use mathlib.Core.Path.{_≡_}
 use mathlib.Core.Bool.{Bool, false, true, not, cond}
 use mathlib.Core.List.{List}
 use Prim.{Unit}
@@ -33,6 +34,10 @@ tallyBy Nothing crossed sum = Crossed crossed sum
 unfoldable pub tallyFrom : List ℤ → Point → Point → ℕ → ℕ → Tally
 tallyFrom vs X P i k =
     tallyBy (firstFrom (isOnBorder vs P) i k) (countFrom (isCrossed vs X P) i k) (sumFrom (wayOf vs X P) i k)
+
+-- For the code alone: no edge before i is border and holds P, so a walk comes to edge i.
+abbrev pub NoneBefore : List ℤ → Point → ℕ → Type 0
+NoneBefore vs P i = firstFrom (isOnBorder vs P) 0 i ≡ Nothing
 
 -- ---- the edges looked at
 

@@ -1,4 +1,4 @@
-// Whether an edge that holds the query is border: document 02's P3. Here, in order: coincident_run, coincident_all,
+// Whether an edge that holds the query is border: document 02's P3. Here, in order: coincident_run, is_border_by_runs,
 // is_border, is_on_border. Edges that join the same two directions hold the same points: one that is coincident with an
 // edge that holds the query is not strictly on one side of the arc's plane, and so in no run that is skipped.
 ghost use mathlib.Core.Path.{_≡_};
@@ -8,13 +8,15 @@ ghost use Rattle.integers.specs.Sign.{signOf};
 ghost use Rattle.sphere.specs.Orientation.{orientationOf};
 ghost use Rattle.answer.specs.Search.{countFrom};
 ghost use Rattle.polygon.specs.Vertices.{vertexCount, startOf, endOf};
-ghost use Rattle.polygon.specs.Border.{isCoincident, coincidentOf, isBorder};
+ghost use Rattle.polygon.specs.Border.{isCoincident, isBorder};
 ghost use Rattle.polygon.specs.Verdict.{isHeldBy, isOnBorder};
 ghost use Rattle.search.specs.Arc.{Searchable};
 ghost use Rattle.search.specs.Boxes.{runCount, runEnd};
+ghost use Rattle.search.specs.Walk.{NoneBefore};
 use crate::arc::Arc;
 use crate::boxes;
 use polygon::border::coincident_edges;
+use polygon::border::next_coincident;
 use polygon::vertices::end_of;
 use polygon::vertices::vertex_at;
 use sphere::edge::on_edge_by;
@@ -43,32 +45,43 @@ fn coincident_run(vertices: &[i32], boxes: &[i32], arc: Arc, i: usize, r: usize)
     )
 }
 
-// The same of all edges.
-fn coincident_all(vertices: &[i32], boxes: &[i32], arc: Arc, i: usize) -> u32
+// Edge i is border: by all runs. Where one before its own has such an edge, it is not, and nothing more is counted.
+fn is_border_by_runs(vertices: &[i32], boxes: &[i32], arc: Arc, i: usize) -> bool
     requires { ⌜ Searchable (now vertices) (now boxes) arc × (i < vertexCount (now vertices))
-        × (isHeldBy (now vertices) (arc .to) i ≡ true) ⌝ }
-    ensures { λ k. ⌜ k ≡ coincidentOf (now (vertices .entry)) (startOf (now (vertices .entry)) i)
-        (endOf (now (vertices .entry)) i) ⌝ }
+        × (isHeldBy (now vertices) (arc .to) i ≡ true) × NoneBefore (now vertices) (arc .to) i ⌝ }
+    ensures { λ r. ⌜ r ≡ isBorder (now (vertices .entry)) i ⌝ }
 {
     let runs = boxes::run_count(vertices.len() / 3);
     let mut count: u32 = 0;
     for r in 0..runs {
+        if r <= i / 32 {
+            if count > 0 {
+                return false;
+            }
+        }
         count += coincident_run(vertices, boxes, arc, i, r);
     }
-    count
+    count % 2 == 1
 }
 
+// An edge before i that is coincident with it holds the query too, and was found to be no border: nor is i.
 fn is_border(vertices: &[i32], boxes: &[i32], arc: Arc, i: usize) -> bool
     requires { ⌜ Searchable (now vertices) (now boxes) arc × (i < vertexCount (now vertices))
-        × (isHeldBy (now vertices) (arc .to) i ≡ true) ⌝ }
+        × (isHeldBy (now vertices) (arc .to) i ≡ true) × NoneBefore (now vertices) (arc .to) i ⌝ }
     ensures { λ r. ⌜ r ≡ isBorder (now (vertices .entry)) i ⌝ }
 {
-    coincident_all(vertices, boxes, arc, i) % 2 == 1
+    let c = vertex_at(vertices, i);
+    let d = end_of(vertices, i);
+    if next_coincident(vertices, c, d, i / 32 * 32, i) < i {
+        return false;
+    }
+    is_border_by_runs(vertices, boxes, arc, i)
 }
 
 // Edge i holds the query and is border; by side, which has the sign of the orientation of its ends and the query.
 pub fn is_on_border(vertices: &[i32], boxes: &[i32], arc: Arc, i: usize, side: i64) -> bool
-    requires { ⌜ Searchable (now vertices) (now boxes) arc × (i < vertexCount (now vertices)) ⌝ }
+    requires { ⌜ Searchable (now vertices) (now boxes) arc × (i < vertexCount (now vertices))
+        × NoneBefore (now vertices) (arc .to) i ⌝ }
     requires { ⌜ signOf side ≡ signOf (orientationOf (startOf (now vertices) i) (endOf (now vertices) i) (arc .to)) ⌝ }
     ensures { λ r. ⌜ r ≡ isOnBorder (now (vertices .entry)) (arc .to) i ⌝ }
 {

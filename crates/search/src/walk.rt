@@ -14,7 +14,7 @@ ghost use Rattle.search.specs.Arc.{Searchable};
 ghost use Rattle.search.specs.Boxes.{Boxed};
 ghost use Rattle.search.specs.Scan.{Sided, EndSides};
 ghost use Rattle.search.specs.Walk.{testBy, tallyBy, tallyFrom, lookedFrom};
-ghost use Rattle.search.specs.Walk.{lookedIn};
+ghost use Rattle.search.specs.Walk.{lookedIn, NoneBefore};
 use crate::arc::Arc;
 use crate::arc::arc_between;
 use crate::border::is_on_border;
@@ -42,7 +42,8 @@ pub enum EdgeTest {
 
 // Its own two orientations are worked out only where its ends are not strictly on one side.
 fn test_edge(vertices: &[i32], boxes: &[i32], arc: Arc, near: Near) -> EdgeTest
-    requires { ⌜ Searchable (now vertices) (now boxes) arc × EndSides (now vertices) (arc .from) (arc .to) near ⌝ }
+    requires { ⌜ Searchable (now vertices) (now boxes) arc × EndSides (now vertices) (arc .from) (arc .to) near
+        × NoneBefore (now vertices) (arc .to) (near .edge) ⌝ }
     ensures { λ r. ⌜ r ≡ testBy (isOnBorder (now (vertices .entry)) (arc .to) (near .edge))
         (wayOf (now (vertices .entry)) (arc .from) (arc .to) (near .edge)) ⌝ }
 {
@@ -96,7 +97,7 @@ fn walk_edges(
     to: usize,
 ) -> Tally
     requires { ⌜ Searchable (now vertices) (now boxes) arc × Sided (now vertices) (arc .plane .normal) 0 closing ⌝ }
-    requires { ⌜ (from < to) × (to ≤ vertexCount (now vertices)) ⌝ }
+    requires { ⌜ (from < to) × (to ≤ vertexCount (now vertices)) × NoneBefore (now vertices) (arc .to) from ⌝ }
     ensures { λ r. ⌜ r ≡ tallyFrom (now (vertices .entry)) (arc .from) (arc .to) from (to - from) ⌝ }
 {
     let mut i = from;

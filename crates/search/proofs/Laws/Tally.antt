@@ -1,7 +1,7 @@
 -- What a walk has tallied before edge i. Defined: Parts, Tallied. Proved, in order: crossed-parts, held-found (what a
 -- tally says of its parts); tallied-start, tallied-block (k edges more), tallied-none, tallied-held, tallied-end,
--- tally-all; test-held, test-way (one edge); tallied-few, tallied-small; sum-fits, sum-held (a sum, as the loop's local
--- holds it).
+-- none-start, none-before, tally-all; test-held, test-way (one edge); tallied-few, tallied-small; sum-fits, sum-held (a
+-- sum, as the loop's local holds it).
 use mathlib.Core.Path.{_≡_, refl, sym, ap, _∙_, subst}
 use mathlib.Core.Bool.{Bool, true, false, not, cond}
 use mathlib.Core.List.{List}
@@ -24,7 +24,7 @@ use Rattle.answer.proofs.Laws.Blocks.{first-pass, first-keep, count-append, sum
 use Rattle.search.specs.declared.walk.EdgeTest.the-variants.{OnBorder, Way}
 use Rattle.search.specs.declared.walk.Tally.{Tally}
 use Rattle.search.specs.declared.walk.Tally.the-variants.{Held, Crossed}
-use Rattle.search.specs.Walk.{testBy, tallyBy, tallyFrom}
+use Rattle.search.specs.Walk.{testBy, tallyBy, tallyFrom, NoneBefore}
 
 -- ---- a tally's parts
 pub record Parts (found : Found) (c : ℕ) (s : ℤ) (crossed : ℕ) (sum : ℤ) : Type 0 where
@@ -105,6 +105,19 @@ module _ {vs : List ℤ} {X P : Point} where
       tallyFrom vs X P from (to - from) ≡ Crossed crossed sum
   unfolding tallyFrom
   tallied-end t = rw (t .none, t .count, t .total)
+
+-- From edge 0 on, where none before `from` is border and holds P.
+pub none-start : (vs : List ℤ) (P : Point) → NoneBefore vs P 0
+unfolding firstFrom
+none-start vs P = refl
+
+pub none-before : (vs : List ℤ) (X P : Point) {from i crossed : ℕ} {sum : ℤ} → from ≤ i → NoneBefore vs P from →
+    Tallied vs X P from i crossed sum → NoneBefore vs P i
+none-before vs X P {from} {i} h none t =
+    let first : 0 + from ≡ from = omega arith in
+    subst (λ k. NoneBefore vs P k) (here from i h)
+    (first-pass (isOnBorder vs P) 0 from (i - from) none
+    ∙ ap (λ j. firstFrom (isOnBorder vs P) j (i - from)) first ∙ t .none)
 
 -- Of all edges.
 pub tally-all : (vs : List ℤ) (X P : Point) (n : ℕ) {tally : Tally} → tallyFrom vs X P 0 (n - 0) ≡ tally →

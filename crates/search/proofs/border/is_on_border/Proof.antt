@@ -46,7 +46,8 @@ held c e =
 
 is-border-requires : tie.Need-is-border-requires
 is-border-requires c κs =
-    let s = c .before .before .before .before in (s .pre .0 .0, s .pre .0 .1, held (c .before) (c .if1 .taken))
+    let s = c .before .before .before .before in
+    (s .pre .0 .0, s .pre .0 .1, held (c .before) (c .if1 .taken), s .pre .0 .2)
 
 returns : tie.Need-returns
 returns c = rw (held (c .before .before) (c .before .if1 .taken)) (c .is-border .ensures)

@@ -97,7 +97,7 @@ is-on-border-requires : tie.Need-is-on-border-requires
 is-on-border-requires c κs =
     let e = ends c in
     let s = entry e in (
-      (s .pre .0, s .pre .1 .below),
+      (s .pre .0, s .pre .1 .below, s .pre .2),
       side-of-query c ∙ (λ j. signOf (orientationOf (e .before .vertex-at .ensures j) (e .end-of .ensures j)
           (s .args .arc .to))),
     )

@@ -19,7 +19,7 @@ use Rattle.search.proofs.Laws.OneSided.{tallied-past}
 use Rattle.search.proofs.Laws.Near.{next-sided}
 use Rattle.search.proofs.Laws.Scanned.{sided-held}
 use Rattle.search.proofs.Laws.Tally.{Tallied, tallied-start, tallied-block, tallied-held, tallied-end}
-use Rattle.search.proofs.Laws.Tally.{tallied-few, test-held, test-way, sum-fits, sum-held}
+use Rattle.search.proofs.Laws.Tally.{none-before, tallied-few, test-held, test-way, sum-fits, sum-held}
 use Rattle.search.proofs.walk.walk_edges.Statement.{statement}
 use Rattle.search.proofs.walk.walk_edges.Tie as tie
 
@@ -99,7 +99,11 @@ module _ (c : tie.After-near-from Inv-loop μ-loop) where
 
 test-edge-requires : tie.Need-test-edge-requires Inv-loop μ-loop
 test-edge-requires c κs =
-    let n = c .before .before in (entry n .pre .0 .0, n .near-from .ensures .ends (c .if1 .left))
+    let n = c .before .before in (
+      entry n .pre .0 .0,
+      n .near-from .ensures .ends (c .if1 .left),
+      none-before _ _ _ (after n) (entry n .pre .1 .2) (here n),
+    )
 
 enum-told : tie.Need-enum-told Inv-loop μ-loop
 enum-told c = search needs

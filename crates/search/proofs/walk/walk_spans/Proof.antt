@@ -21,7 +21,7 @@ use Rattle.search.proofs.Laws.Runs.{runs-few, start-runs}
 use Rattle.search.proofs.Laws.Scanned.{sided-result}
 use Rattle.search.proofs.Laws.Spans.{spanned-within}
 use Rattle.search.proofs.Laws.Tally.{Tallied, tallied-start, tallied-block, tallied-held, tallied-end}
-use Rattle.search.proofs.Laws.Tally.{tally-all, tallied-few, sum-fits, sum-held}
+use Rattle.search.proofs.Laws.Tally.{none-start, none-before, tally-all, tallied-few, sum-fits, sum-held}
 use Rattle.search.proofs.walk.walk_spans.Statement.{statement}
 use Rattle.search.proofs.walk.walk_spans.Tie as tie
 
@@ -101,7 +101,7 @@ walk-edges-requires c κs =
         s .pre,
         sided-result (side .result) (record { sfits = side .ok }) (side .ensures) (d .before .vertex-at .ensures),
       ),
-      (c .if1 .left, a .next-span .ensures .within),
+      (c .if1 .left, a .next-span .ensures .within, none-before _ _ _ (omega arith) (none-start _ _) (here a)),
     )
 
 enum-known-edge : tie.Need-enum-known-edge Inv-loop μ-loop
