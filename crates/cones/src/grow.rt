@@ -1,6 +1,6 @@
 // The table of cones: a cone is halved, and its halves, as long as it pays. Here, in order: Half, mean, middle, halve;
-// may_halve, is_worth, share, rest, half_of; Split, lower, upper; grow. What to halve, and how many nodes, are hints: any
-// choice is right.
+// may_halve, is_worth, share, rest, half_of; Split, lower, upper; grow. What to halve, and how many nodes, are hints:
+// any choice is right.
 ghost use mathlib.Core.Path.{_≡_};
 ghost use Prim.Native.Nat.{_+_, _≤_, _<_};
 ghost use lib.ListN.{length};
