@@ -22,7 +22,8 @@
  *              length is 0.
  *     memory   Only the bytes named are touched, and only those of a buffer that is not const are written; with a
  *              refusal none is. A buffer that is written must not overlap what the same call reads: the compiled code
- *              may assume it. No call keeps state or allocates, and each needs less than 64 KiB of stack.
+ *              may assume it. No call keeps state or allocates, and each needs less than 64 KiB of stack; but for
+ *              spg_feed_number with 128 queries or more, which may build an index: that needs less than 128 KiB.
  *     threads  Any number may call at once, on the same sheet too, each with buffers of its own to write to.
  *     time     Each call returns. It checks the whole sheet and works out the whole answer, in time that grows with
  *              the number of vertices; where it grows faster, the call says so.
@@ -271,8 +272,8 @@ SPG_PURE int32_t spg_judge_sum(const uint8_t *sheet, size_t sheet_len, int32_t x
  *
  * It is good for tuning: it says how much of an outline a query touches, and an outline whose neighbouring vertices lie
  * close together lets more runs be skipped. The rest of the answer does not depend on it: a skipped side is neither
- * crossed nor holds the query. A feed's results do not have this number, and of an outline of up to 64 sides a feed
- * skips none: so few are looked at faster than boxes.
+ * crossed nor holds the query. A feed's results do not have this number. A feed of few queries skips the same runs, but
+ * none of an outline of up to 64 sides: so few are looked at faster than boxes; a long one goes by an index.
  */
 SPG_PURE uint32_t spg_judge_looked(const uint8_t *sheet, size_t sheet_len, int32_t x, int32_t y, int32_t z);
 
@@ -292,6 +293,9 @@ SPG_PURE uint32_t spg_judge_looked(const uint8_t *sheet, size_t sheet_len, int32
  * query that is refused (17, 18) spoils only its own result. The bytes past the last result stay as they were. With any
  * other number nothing at all is written. spg_feed_place and spg_feed_count check the lengths and the sheet and judge
  * no query.
+ *
+ * A feed of at least 128 queries and one more for every eight sides builds an index first: a long feed costs a third of
+ * what as many short ones do, or less. No result depends on it.
  */
 SPG_USED uint32_t spg_feed_number(const uint8_t *sheet, size_t sheet_len, const uint8_t *queries, size_t queries_len,
                                   uint8_t *SPG_RESTRICT results, size_t results_len);

@@ -185,9 +185,9 @@ fn feed_place_is_not_cut() {
     assert_eq!(output_of(client.arg("long"), &[]), "27 4294967316 0 0 0\n");
 }
 
-/// The header promises that a call needs less than 64 KiB of stack: measured for each topic, inside, on the
-/// boundary, and from a second point; on the fine grid with turns that floats leave to exact work, and with
-/// numbers so large that floats decide.
+/// The header promises that a call needs less than 64 KiB of stack, a long feed less than 128: measured for each
+/// topic, inside, on the boundary, and from a second point; on the fine grid with turns that floats leave to exact
+/// work, and with numbers so large that floats decide. 640 queries to 4,096 sides are enough for an index.
 #[test]
 fn stack() {
     let folder = Folder::new("stack");
@@ -198,13 +198,14 @@ fn stack() {
     let cases = [(&plain, 1, [3, 2, 1]), (&plain, 3, vertices[4095]), (&pair, 1, [-500, -1, -3])];
     let mut most = BTreeMap::new();
     for (grid, factor) in [(Grid::Coarse, 1), (Grid::Fine, 1), (Grid::Fine, 16_000)] {
-        for (sheet, number, query) in cases {
+        for ((sheet, number, query), n) in cases.iter().flat_map(|case| [(case, 639), (case, 640)]) {
             let (sheet, query) = (sheet.times(factor).on(grid).bytes(), query.map(|k| factor * k));
-            let queries = points_bytes(&[query; 100]);
-            assert_eq!(reference::judge(&sheet, query).number, number);
+            let queries = points_bytes(&vec![query; n]);
+            assert_eq!(reference::judge(&sheet, query).number, *number);
             let case = [&sheet, &queries, &vec![0; queries.len()]].map(|bytes| row(bytes)).concat();
             for line in output_of(&mut client, &case).lines() {
                 let (needed, topic) = line.split_once(' ').expect("two words");
+                let topic = if (topic, n) == ("feed", 640) { "long feed" } else { topic };
                 let entry = most.entry(topic.to_string()).or_insert(0);
                 *entry = needed.parse::<usize>().expect("bytes").max(*entry);
             }
@@ -212,5 +213,7 @@ fn stack() {
     }
     let topics: Vec<String> = most.iter().map(|(topic, needed)| format!("{topic} {needed}")).collect();
     println!("stack, bytes, those of starting a thread among them: {}", topics.join("; "));
+    let long = most.remove("long feed").expect("topic");
+    assert!(long < 128 << 10, "the promise");
     assert!(most.len() == 11 && most.values().all(|needed| *needed <= 60_000), "the promise, and some room");
 }
