@@ -3,8 +3,8 @@
 //!
 //! `reference` is that reading, `library` and `imports` the calls under test. `random`, `sheet`, `islands` and
 //! `stars` make the inputs, `host` runs programs; the benchmark uses these too. `calls` has the calls as a table, on
-//! the guarded pages of `guard`, and the fuzzer uses these. `outlines` and `turns` make inputs: coincidences, and turns
-//! that floats get wrong. The other modules are the tests.
+//! the guarded pages of `guard`, and the fuzzer uses these. `outlines`, `turns` and `corridors` make inputs:
+//! coincidences, turns that floats get wrong, and queries on many corridors. The other modules are the tests.
 
 pub mod calls;
 pub mod fractions;
@@ -29,6 +29,8 @@ mod charts;
 mod client;
 #[cfg(test)]
 mod compare;
+#[cfg(test)]
+mod corridors;
 #[cfg(test)]
 mod damage;
 #[cfg(test)]
