@@ -1,5 +1,5 @@
-// Whether an edge that holds the query is border: document 02's P3. Here, in order: coincident_run, is_border_by_runs,
-// is_border, is_on_border. Edges that join the same two directions hold the same points: one that is coincident with an
+// Whether an edge that holds the query is border: document 02's P3. Here, in order: coincident_run, is_border,
+// is_on_border. Edges that join the same two directions hold the same points: one that is coincident with an
 // edge that holds the query is not strictly on one side of the arc's plane, and so in no run that is skipped.
 ghost use mathlib.Core.Path.{_≡_};
 ghost use mathlib.Core.Bool.{true};
@@ -16,7 +16,6 @@ ghost use Rattle.search.specs.Walk.{NoneBefore};
 use crate::arc::Arc;
 use crate::boxes;
 use polygon::border::coincident_edges;
-use polygon::border::next_coincident;
 use polygon::vertices::end_of;
 use polygon::vertices::vertex_at;
 use sphere::edge::on_edge_by;
@@ -45,8 +44,9 @@ fn coincident_run(vertices: &[i32], boxes: &[i32], arc: Arc, i: usize, r: usize)
     )
 }
 
-// Edge i is border: by all runs. Where one before its own has such an edge, it is not, and nothing more is counted.
-fn is_border_by_runs(vertices: &[i32], boxes: &[i32], arc: Arc, i: usize) -> bool
+// An edge before i that is coincident with it holds the query too, and was found to be no border: nor is i. So where a
+// run before that of i has one, nothing more is counted.
+fn is_border(vertices: &[i32], boxes: &[i32], arc: Arc, i: usize) -> bool
     requires { ⌜ Searchable (now vertices) (now boxes) arc × (i < vertexCount (now vertices))
         × (isHeldBy (now vertices) (arc .to) i ≡ true) × NoneBefore (now vertices) (arc .to) i ⌝ }
     ensures { λ r. ⌜ r ≡ isBorder (now (vertices .entry)) i ⌝ }
@@ -62,20 +62,6 @@ fn is_border_by_runs(vertices: &[i32], boxes: &[i32], arc: Arc, i: usize) -> boo
         count += coincident_run(vertices, boxes, arc, i, r);
     }
     count % 2 == 1
-}
-
-// An edge before i that is coincident with it holds the query too, and was found to be no border: nor is i.
-fn is_border(vertices: &[i32], boxes: &[i32], arc: Arc, i: usize) -> bool
-    requires { ⌜ Searchable (now vertices) (now boxes) arc × (i < vertexCount (now vertices))
-        × (isHeldBy (now vertices) (arc .to) i ≡ true) × NoneBefore (now vertices) (arc .to) i ⌝ }
-    ensures { λ r. ⌜ r ≡ isBorder (now (vertices .entry)) i ⌝ }
-{
-    let c = vertex_at(vertices, i);
-    let d = end_of(vertices, i);
-    if next_coincident(vertices, c, d, i / 32 * 32, i) < i {
-        return false;
-    }
-    is_border_by_runs(vertices, boxes, arc, i)
 }
 
 // Edge i holds the query and is border; by side, which has the sign of the orientation of its ends and the query.

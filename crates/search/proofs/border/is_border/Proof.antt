@@ -1,66 +1,115 @@
--- `is_border` meets its contract: by an edge before i in its run, or by all runs.
-use mathlib.Core.Path.{sym, _∙_}
+-- `is_border` meets its contract: what was counted before run r, and run r, are counted before run r + 1.
+-- What was counted before the run of edge i is of edges before i.
+use mathlib.Core.Path.{sym, ap}
+use mathlib.Core.Bool.{Bool}
+use mathlib.Core.List.{List}
+use Prim.Native.Nat.{ℕ, _+_, _-_, _%_, _≤_}
 use native.Mathlib.Omega.{arith}
 use borrow.Author.Needs.{needs}
-use Rattle.polygon.specs.Border.{isCoincident}
-use Rattle.polygon.proofs.Laws.Checks.{gridded-fine}
-use Rattle.polygon.proofs.Laws.Edges.{end-within}
+use lib.Dec.{eqb}
+use lib.IntN.{ℤ}
+use Rattle.polygon.specs.Vertices.{vertexCount, startOf, endOf}
+use Rattle.polygon.specs.Border.{isCoincident, coincidentOf, isBorder}
+use Rattle.search.specs.Spans.{runStart}
 use Rattle.search.proofs.Laws.Arc.{reference}
-use Rattle.search.proofs.Laws.Coincident.{earlier-not-border}
+use Rattle.search.proofs.Laws.Coincident.{counted-not-border}
+use Rattle.search.proofs.Laws.Counted.{Counted, counted-few, runs-start, runs-step, runs-end}
 use Rattle.search.proofs.border.is_border.Statement.{statement}
 use Rattle.search.proofs.border.is_border.Tie as tie
 
-vertex-at-requires : tie.Need-vertex-at-requires
-vertex-at-requires c κs = omega (arith, c .pre .1)
+abbrev Inv-loop : tie.InvT-loop
+Inv-loop vertices boxes arc i runs count₀ r₀ count r =
+    (r ≤ runs)
+    × Counted (isCoincident vertices (startOf vertices i) (endOf vertices i)) 0 (runStart (vertexCount vertices) r)
+    count
 
-end-of-requires : tie.Need-end-of-requires
-end-of-requires c κs = c .before .pre .1
+abbrev μ-loop : tie.MeasureT-loop
+μ-loop vertices boxes arc i runs count₀ r₀ count r = runs - r
 
-mul-next-coincident : tie.Need-mul-next-coincident
-mul-next-coincident c =
-    let s = c .before .before in
-    omega (arith, s .pre .1, reference (s .pre .0 .aimed) .accepted .listed .most)
+module _ (s : tie.Start Inv-loop μ-loop) where
+  abbrev vs : List ℤ
+  vs = s .args .vertices .now
 
-next-coincident-requires : tie.Need-next-coincident-requires
-next-coincident-requires c κs =
-    let s = c .before .before in
-    let a = reference (s .pre .0 .aimed) .accepted in
-    let grid = gridded-fine (s .args .arc .plane .grid) (a .gridded) in (
-      (
-        a .listed,
-        grid,
-        rw (c .before .vertex-at .ensures) (grid .each (s .args .i) (s .pre .1)),
-        end-within grid (s .pre .1) (c .end-of .ensures),
-      ),
-      (omega arith, omega (arith, s .pre .1)),
+  abbrev test : ℕ → Bool
+  test = isCoincident vs (startOf vs (s .args .i)) (endOf vs (s .args .i))
+
+  most : vertexCount vs ≤ 4096
+  most = reference (s .pre .0 .aimed) .accepted .listed .most
+
+run-count-requires : tie.Need-run-count-requires Inv-loop μ-loop
+run-count-requires c κs = most c
+
+loop-holds : tie.Need-loop-holds Inv-loop μ-loop
+loop-holds c = (omega arith, runs-start _ _)
+
+-- Run r.
+module _ (c : tie.In-loop Inv-loop μ-loop) where
+  abbrev at : tie.At-loop Inv-loop μ-loop
+  at = c .before
+
+  abbrev start : tie.Start Inv-loop μ-loop
+  start = at .before .before
+
+-- A coincident edge was counted, and run r is not past that of edge i.
+returns : tie.Need-returns Inv-loop μ-loop
+returns c =
+    let run = c .before .before in
+    let s = start run in
+    sym (counted-not-border (vs s) (s .args .arc .from) (s .args .arc .to) (reference (s .pre .0 .aimed) .off-circle)
+    (s .args .i) (s .pre .1) (s .pre .2) (s .pre .3) (omega (arith, c .before .if1 .taken)) (at run .loop .inv .1)
+    (c .if2 .taken))
+
+coincident-run-requires : tie.Need-coincident-run-requires Inv-loop μ-loop
+coincident-run-requires c κs =
+    let run = c .before in
+    let s = start run in (
+      (s .pre .0, s .pre .1, s .pre .2),
+      omega (arith, run .loop-test .taken, at run .before .run-count .ensures),
     )
 
-returns : tie.Need-returns
-returns c =
-    let n = c .before in
-    let e = n .before in
-    let s = e .before .before in
-    let vs = s .args .vertices .now in
-    let j = n .next-coincident .result in
-    sym (earlier-not-border vs (s .args .arc .from) (s .args .arc .to) (reference (s .pre .0 .aimed) .off-circle)
-    (s .args .i) (s .pre .1) (s .pre .2) (s .pre .3) j (c .if1 .taken)
-    (sym (λ k. isCoincident vs (e .before .vertex-at .ensures k) (e .end-of .ensures k) j)
-    ∙ n .next-coincident .ensures .joined (c .if1 .taken)))
+module _ (c : tie.After-coincident-run Inv-loop μ-loop) where
+  abbrev run : tie.In-loop Inv-loop μ-loop
+  run = c .before .before
 
-is-border-by-runs-requires : tie.Need-is-border-by-runs-requires
-is-border-by-runs-requires c κs = search needs
+  next : let s = start run in
+      let l = at run .loop in
+      Counted (test s) 0 (runStart (vertexCount (vs s)) (l .r + 1)) (l .count + c .coincident-run .result)
+  next =
+      let l = at run in
+      runs-step _ _ (omega (arith, run .loop-test .taken, l .before .run-count .ensures)) (l .loop .inv .1)
+      (c .coincident-run .ensures)
 
-returns-2 : tie.Need-returns-2
-returns-2 c = c .is-border-by-runs .ensures
+add-count : tie.Need-add-count Inv-loop μ-loop
+add-count c = omega (arith, counted-few _ (next c), most (start (run c)))
+
+add-r : tie.Need-add-r Inv-loop μ-loop
+add-r c = search needs
+
+loop-less : tie.Need-loop-less Inv-loop μ-loop
+loop-less c = omega (arith, run c .loop-test .taken)
+
+loop-again : tie.Need-loop-again Inv-loop μ-loop
+loop-again c = (omega (arith, run c .loop-test .taken), next c)
+
+returns-2 : tie.Need-returns-2 Inv-loop μ-loop
+unfolding isBorder coincidentOf
+returns-2 c =
+    let l = c .before in
+    ap (λ (k : ℕ). eqb (k % 2) 1)
+    (runs-end _ _ (omega (arith, c .loop-test .left, l .before .run-count .ensures)) (l .loop .inv .1))
 
 pub is-border-spec : {M : Type 1} → statement M
 is-border-spec =
     tie.close
     (tie.spec
-    vertex-at-requires
-    end-of-requires
-    mul-next-coincident
-    next-coincident-requires
+    Inv-loop
+    μ-loop
+    run-count-requires
+    loop-holds
     returns
-    is-border-by-runs-requires
+    coincident-run-requires
+    add-count
+    add-r
+    loop-less
+    loop-again
     returns-2)
