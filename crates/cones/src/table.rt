@@ -90,8 +90,8 @@ fn has_room(rays: usize, spans: usize, list: usize, nodes: usize, top: usize, mo
     true
 }
 
-// The same where there is room for it, and its list is short enough to be worth it. The queries of a cone without a
-// node go to the boxes.
+// The same where there is room for it, and its list is short enough to be worth it: an entry costs as much as some six
+// edges that boxes leave. The queries of a cone without a node go to the boxes.
 pub fn put_leaf(
     vertices: &[i32],
     known: Point,
@@ -110,7 +110,7 @@ pub fn put_leaf(
     let nodes = size.nodes;
     let top = size.top;
     let len = cone.to - cone.from;
-    if len <= vertices.len() / 6 + 16 {
+    if len <= vertices.len() / 18 + 21 {
         if has_room(rays.len(), spans.len(), list.len(), nodes, top, len) {
             let end = put_node(vertices, known, rays, spans, list, stack, cone, nodes, top);
             return Size {
