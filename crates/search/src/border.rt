@@ -54,12 +54,13 @@ fn is_border(vertices: &[i32], boxes: &[i32], arc: Arc, i: usize) -> bool
     let runs = boxes::run_count(vertices.len() / 3);
     let mut count: u32 = 0;
     for r in 0..runs {
-        if r <= i / 32 {
-            if count > 0 {
+        let more = coincident_run(vertices, boxes, arc, i, r);
+        if more > 0 {
+            if r < i / 32 {
                 return false;
             }
         }
-        count += coincident_run(vertices, boxes, arc, i, r);
+        count += more;
     }
     count % 2 == 1
 }

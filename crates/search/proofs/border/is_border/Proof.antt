@@ -1,5 +1,5 @@
 -- `is_border` meets its contract: what was counted before run r, and run r, are counted before run r + 1.
--- What was counted before the run of edge i is of edges before i.
+-- What is counted before the run of edge i is of edges before i.
 use mathlib.Core.Path.{sym, ap}
 use mathlib.Core.Bool.{Bool}
 use mathlib.Core.List.{List}
@@ -50,26 +50,16 @@ module _ (c : tie.In-loop Inv-loop μ-loop) where
   abbrev start : tie.Start Inv-loop μ-loop
   start = at .before .before
 
--- A coincident edge was counted, and run r is not past that of edge i.
-returns : tie.Need-returns Inv-loop μ-loop
-returns c =
-    let run = c .before .before in
-    let s = start run in
-    sym (counted-not-border (vs s) (s .args .arc .from) (s .args .arc .to) (reference (s .pre .0 .aimed) .off-circle)
-    (s .args .i) (s .pre .1) (s .pre .2) (s .pre .3) (omega (arith, c .before .if1 .taken)) (at run .loop .inv .1)
-    (c .if2 .taken))
-
 coincident-run-requires : tie.Need-coincident-run-requires Inv-loop μ-loop
 coincident-run-requires c κs =
-    let run = c .before in
-    let s = start run in (
+    let s = start c in (
       (s .pre .0, s .pre .1, s .pre .2),
-      omega (arith, run .loop-test .taken, at run .before .run-count .ensures),
+      omega (arith, c .loop-test .taken, at c .before .run-count .ensures),
     )
 
 module _ (c : tie.After-coincident-run Inv-loop μ-loop) where
   abbrev run : tie.In-loop Inv-loop μ-loop
-  run = c .before .before
+  run = c .before
 
   next : let s = start run in
       let l = at run .loop in
@@ -79,17 +69,26 @@ module _ (c : tie.After-coincident-run Inv-loop μ-loop) where
       runs-step _ _ (omega (arith, run .loop-test .taken, l .before .run-count .ensures)) (l .loop .inv .1)
       (c .coincident-run .ensures)
 
+-- Run r has a coincident edge, and is before that of edge i.
+returns : tie.Need-returns Inv-loop μ-loop
+returns c =
+    let a = c .before .before in
+    let s = start (run a) in
+    sym (counted-not-border (vs s) (s .args .arc .from) (s .args .arc .to) (reference (s .pre .0 .aimed) .off-circle)
+    (s .args .i) (s .pre .1) (s .pre .2) (s .pre .3) (omega (arith, c .if2 .taken)) (next a)
+    (omega (arith, c .before .if1 .taken)))
+
 add-count : tie.Need-add-count Inv-loop μ-loop
-add-count c = omega (arith, counted-few _ (next c), most (start (run c)))
+add-count c = omega (arith, counted-few _ (next (c .before)), most (start (run (c .before))))
 
 add-r : tie.Need-add-r Inv-loop μ-loop
 add-r c = search needs
 
 loop-less : tie.Need-loop-less Inv-loop μ-loop
-loop-less c = omega (arith, run c .loop-test .taken)
+loop-less c = omega (arith, run (c .before) .loop-test .taken)
 
 loop-again : tie.Need-loop-again Inv-loop μ-loop
-loop-again c = (omega (arith, run c .loop-test .taken), next c)
+loop-again c = (omega (arith, run (c .before) .loop-test .taken), next (c .before))
 
 returns-2 : tie.Need-returns-2 Inv-loop μ-loop
 unfolding isBorder coincidentOf
@@ -106,8 +105,8 @@ is-border-spec =
     μ-loop
     run-count-requires
     loop-holds
-    returns
     coincident-run-requires
+    returns
     add-count
     add-r
     loop-less
