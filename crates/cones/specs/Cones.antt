@@ -1,10 +1,10 @@
 -- Cones about the reference point X, and lists of edges that are complete for the queries of a cone: for the code
 -- alone. A ray is a point, of which only the half plane from the line through X matters. Defined, in order: InCone;
--- Idle (an edge that a query does not notice), IdleIn; Covers, Complete (a list of edges).
+-- Idle (an edge that a query does not notice), IdleIn; Covers, Complete (a list of edges); EarlierTell.
 use mathlib.Core.Path.{_≡_}
-use mathlib.Core.Bool.{false}
+use mathlib.Core.Bool.{true, false}
 use mathlib.Core.List.{List}
-use Prim.Native.Nat.{ℕ, suc, _≤_}
+use Prim.Native.Nat.{ℕ, suc, _≤_, _<_}
 use lib.IntN.{ℤ, pos}
 use lib.ListN.{length, getD}
 use lib.Signed.{_<ℤ_}
@@ -13,6 +13,7 @@ use Rattle.sphere.specs.declared.point.Point.{Point}
 use Rattle.sphere.specs.Orientation.{orientationOf}
 use Rattle.sphere.specs.Crossing.{crossingOf}
 use Rattle.polygon.specs.Vertices.{startOf, endOf}
+use Rattle.polygon.specs.Border.{isCoincident, isBorder}
 use Rattle.polygon.specs.Verdict.{isHeldBy}
 
 -- Strictly between the rays lo and hi.
@@ -40,3 +41,7 @@ pub record Complete (I : ℕ → Type 0) (n : ℕ) (l : List ℕ) (a b : ℕ) : 
   pub some : a ≤ b
   pub within : b ≤ length l
   pub covers : Covers I l a n b
+
+-- An edge before i that is coincident with it tells that edge i is no border: a walk came past it.
+pub record EarlierTell (vs : List ℤ) (i : ℕ) : Type 0 where
+  pub tell : (j : ℕ) → j < i → isCoincident vs (startOf vs i) (endOf vs i) j ≡ true → isBorder vs i ≡ false

@@ -1,4 +1,4 @@
-// The walk over a list of edges that is complete for the query. Here, in order: coincident_listed, is_on_border,
+// The walk over a list of edges that is complete for the query. Here, in order: is_border, is_on_border,
 // test_listed (one edge); walk_list. Edges that join the same two directions hold the same points: those that are
 // coincident with an edge that holds the query are on the list too.
 ghost use mathlib.Core.Path.{_≡_};
@@ -8,12 +8,12 @@ ghost use Rattle.integers.specs.Sign.{signOf};
 ghost use Rattle.sphere.specs.Point.{fine};
 ghost use Rattle.sphere.specs.Orientation.{orientationOf};
 ghost use Rattle.polygon.specs.Accepted.{Listed, Gridded};
-ghost use Rattle.polygon.specs.Border.{isCoincident, coincidentOf};
+ghost use Rattle.polygon.specs.Border.{isCoincident, isBorder};
 ghost use Rattle.polygon.specs.Vertices.{vertexCount, startOf, endOf};
 ghost use Rattle.polygon.specs.Verdict.{isOnBorder, wayOf};
 ghost use Rattle.search.specs.Arc.{AcceptedArc};
-ghost use Rattle.search.specs.Walk.{testBy, tallyFrom};
-ghost use Rattle.cones.specs.Cones.{Idle, Complete};
+ghost use Rattle.search.specs.Walk.{testBy, tallyFrom, NoneBefore};
+ghost use Rattle.cones.specs.Cones.{Idle, Complete, EarlierTell};
 use crate::lists::wide;
 use answer::Found;
 use polygon::border::coincident;
@@ -30,21 +30,29 @@ use sphere::edge::on_edge_by;
 use sphere::plane::plane_through;
 use sphere::plane::side_of;
 
-// How many edges join the same two directions as edge i, where all that do are listed.
-fn coincident_listed(vertices: &[i32], list: &[u16], from: usize, to: usize, i: usize) -> u32
-    requires { ⌜ Listed (now vertices) × Gridded fine (now vertices) × (i < vertexCount (now vertices)) ⌝ }
+// Edge i is border, where all edges that join the same two directions are listed. One of them before it, which is none,
+// tells that it is not: nothing more is counted.
+fn is_border(vertices: &[i32], list: &[u16], from: usize, to: usize, i: usize) -> bool
+    requires { ⌜ Listed (now vertices) × Gridded fine (now vertices) × (i < vertexCount (now vertices))
+        × EarlierTell (now vertices) i ⌝ }
     requires { ⌜ Complete (λ j. isCoincident (now vertices) (startOf (now vertices) i) (endOf (now vertices) i) j
         ≡ false) (vertexCount (now vertices)) (now list) from to ⌝ }
-    ensures { λ k. ⌜ k ≡ coincidentOf (now (vertices .entry)) (startOf (now (vertices .entry)) i)
-        (endOf (now (vertices .entry)) i) ⌝ }
+    ensures { λ r. ⌜ r ≡ isBorder (now (vertices .entry)) i ⌝ }
 {
     let a = vertex_at(vertices, i);
     let b = end_of(vertices, i);
     let mut count: u32 = 0;
     for e in from..to {
-        count += coincident(vertices, a, b, wide(list[e]));
+        let j = wide(list[e]);
+        let more = coincident(vertices, a, b, j);
+        if j < i {
+            if more == 1 {
+                return false;
+            }
+        }
+        count += more;
     }
-    count
+    count % 2 == 1
 }
 
 // Edge i holds the query and is border; by side, which has the sign of the orientation of its ends and the query.
@@ -57,14 +65,15 @@ fn is_on_border(
     i: usize,
     side: i64,
 ) -> bool
-    requires { ⌜ AcceptedArc (now vertices) arc × (i < vertexCount (now vertices)) ⌝ }
+    requires { ⌜ AcceptedArc (now vertices) arc × (i < vertexCount (now vertices))
+        × NoneBefore (now vertices) (arc .to) i ⌝ }
     requires { ⌜ Complete (Idle (now vertices) (arc .from) (arc .to)) (vertexCount (now vertices)) (now list)
         from to ⌝ }
     requires { ⌜ signOf side ≡ signOf (orientationOf (startOf (now vertices) i) (endOf (now vertices) i) (arc .to)) ⌝ }
     ensures { λ r. ⌜ r ≡ isOnBorder (now (vertices .entry)) (arc .to) i ⌝ }
 {
     if on_edge_by(vertex_at(vertices, i), end_of(vertices, i), arc.to, side) {
-        return coincident_listed(vertices, list, from, to, i) % 2 == 1;
+        return is_border(vertices, list, from, to, i);
     }
     false
 }
@@ -79,7 +88,8 @@ fn test_listed(
     to: usize,
     i: usize,
 ) -> EdgeTest
-    requires { ⌜ AcceptedArc (now vertices) arc × (i < vertexCount (now vertices)) ⌝ }
+    requires { ⌜ AcceptedArc (now vertices) arc × (i < vertexCount (now vertices))
+        × NoneBefore (now vertices) (arc .to) i ⌝ }
     requires { ⌜ Complete (Idle (now vertices) (arc .from) (arc .to)) (vertexCount (now vertices)) (now list)
         from to ⌝ }
     ensures { λ r. ⌜ r ≡ testBy (isOnBorder (now (vertices .entry)) (arc .to) i)

@@ -2,20 +2,18 @@
 -- is coincident with it is listed.
 use mathlib.Core.Path.{_≡_, sym, ap, _∙_}
 use mathlib.Core.Bool.{Bool}
-use Prim.Native.Nat.{ℕ, _%_}
 use native.Mathlib.Omega.{arith}
-use lib.Dec.{eqb}
 use mir.Syntax.{w64}
 use mir.ValLaws.{toZ-ofZ}
 use Rattle.integers.specs.Sign.{signOf}
 use Rattle.sphere.specs.Orientation.{orientationOf}
 use Rattle.sphere.specs.OnEdge.{isOnEdge}
 use Rattle.sphere.proofs.Laws.Plane.{grid→fine}
-use Rattle.polygon.specs.Border.{isBorder}
 use Rattle.polygon.specs.Verdict.{isHeldBy}
 use Rattle.polygon.proofs.Laws.Checks.{gridded-fine}
 use Rattle.polygon.proofs.Laws.Edges.{end-within}
 use Rattle.search.proofs.Laws.Arc.{reference}
+use Rattle.search.proofs.Laws.Coincident.{earlier-not-border}
 use Rattle.cones.proofs.Laws.Coincident.{list-coincident}
 use Rattle.cones.proofs.walk.is_on_border.Statement.{statement}
 use Rattle.cones.proofs.walk.is_on_border.Tie as tie
@@ -49,27 +47,34 @@ held c e =
     sym (λ j. isOnEdge (c .before .before .vertex-at .ensures j) (c .before .end-of .ensures j) (s .arc .to))
     ∙ sym (c .on-edge-by .ensures) ∙ e
 
-coincident-listed-requires : tie.Need-coincident-listed-requires
-coincident-listed-requires c κs =
+is-border-requires : tie.Need-is-border-requires
+is-border-requires c κs =
     let s = c .before .before .before .before .before in
     let a = s .args in
     let r = reference (s .pre .0 .0) in
-    let list = s .pre .1 .0 in (
-      (r .accepted .listed, gridded-fine (a .arc .plane .grid) (r .accepted .gridded), s .pre .0 .1),
+    let list = s .pre .1 .0 in
+    let h = held (c .before) (c .if1 .taken) in (
+      (
+        r .accepted .listed,
+        gridded-fine (a .arc .plane .grid) (r .accepted .gridded),
+        s .pre .0 .1,
+        record {
+          tell =
+              earlier-not-border (a .vertices .now) (a .arc .from) (a .arc .to) (r .off-circle) (a .i) (s .pre .0 .1) h
+              (s .pre .0 .2);
+        },
+      ),
       record {
         some = list .some;
         within = list .within;
         covers =
             list-coincident (a .vertices .now) (a .arc .from) (a .arc .to) (r .off-circle) (a .i) (s .pre .0 .1)
-            (held (c .before) (c .if1 .taken)) (omega arith) (list .covers);
+            h (omega arith) (list .covers);
       },
     )
 
 returns : tie.Need-returns
-unfolding isBorder
-returns c =
-    rw (held (c .before .before) (c .before .if1 .taken))
-    (ap (λ (k : ℕ). eqb (k % 2) 1) (c .coincident-listed .ensures))
+returns c = rw (held (c .before .before) (c .before .if1 .taken)) (c .is-border .ensures)
 
 returns-2 : tie.Need-returns-2
 returns-2 c = rw (held (c .before) (c .if1 .left))
@@ -81,6 +86,6 @@ is-on-border-spec =
     vertex-at-requires
     end-of-requires
     on-edge-by-requires
-    coincident-listed-requires
+    is-border-requires
     returns
     returns-2)

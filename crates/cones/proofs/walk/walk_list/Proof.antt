@@ -15,9 +15,10 @@ use mir.ValLaws.{toZ-ofZ}
 use Rattle.polygon.specs.Vertices.{vertexCount}
 use Rattle.search.specs.declared.arc.Arc.{Arc}
 use Rattle.search.specs.declared.walk.Tally.the-variants.{Held, Crossed}
-use Rattle.search.specs.Walk.{tallyFrom}
+use Rattle.search.specs.Walk.{tallyFrom, NoneBefore}
 use Rattle.search.proofs.Laws.Arc.{reference}
 use Rattle.search.proofs.Laws.Tally.{Tallied, tallied-end, tallied-few, tally-all, test-held, test-way, sum-fits}
+use Rattle.search.proofs.Laws.Tally.{none-start, none-before}
 use Rattle.cones.specs.Cones.{Idle, Covers, keep}
 use Rattle.cones.proofs.Laws.Covers.{AtEntry, covers-at, Walked, walk-start, walk-step, walk-held}
 use Rattle.cones.proofs.walk.walk_list.Statement.{statement}
@@ -75,7 +76,14 @@ module _ (c : tie.After-wide Inv-loop μ-loop) where
 
 test-listed-requires : tie.Need-test-listed-requires Inv-loop μ-loop
 test-listed-requires c κs =
-    ((entry c .pre .0, omega (arith, c .wide .ensures, at c .below)), entry c .pre .1)
+    let none = none-before _ _ _ (omega arith) (none-start _ _) (own c .loop .inv .walked .tallied _ (at c .before)) in (
+      (
+        entry c .pre .0,
+        omega (arith, c .wide .ensures, at c .below),
+        subst (λ j. NoneBefore (vs c) (entry c .args .arc .to) j) (sym (c .wide .ensures)) none,
+      ),
+      entry c .pre .1,
+    )
 
 enum-told : tie.Need-enum-told Inv-loop μ-loop
 enum-told c = search needs

@@ -1,21 +1,22 @@
--- `coincident_listed` meets its contract: what was counted of the edges that the entries before e cover, and entry e,
+-- `is_border` meets its contract: what was counted of the edges that the entries before e cover, and entry e,
 -- are counted of those that the entries before e + 1 cover.
-use mathlib.Core.Path.{_≡_, sym, _∙_, subst}
+use mathlib.Core.Path.{_≡_, refl, sym, _∙_, ap, subst}
 use mathlib.Core.Bool.{Bool, true, false, cond}
 use mathlib.Core.List.{List}
-use Prim.Native.Nat.{ℕ, _+_, _-_, _≤_}
+use Prim.Native.Nat.{ℕ, _+_, _-_, _%_, _≤_}
 use native.Mathlib.Omega.{arith}
 use borrow.Author.Needs.{needs}
+use lib.Dec.{eqb}
 use lib.IntN.{ℤ}
 use lib.ListN.{getD}
 use Rattle.polygon.specs.Vertices.{vertexCount, startOf, endOf}
-use Rattle.polygon.specs.Border.{isCoincident, coincidentOf}
+use Rattle.polygon.specs.Border.{isCoincident, coincidentOf, isBorder}
 use Rattle.polygon.proofs.Laws.Edges.{end-within}
 use Rattle.cones.specs.Cones.{Covers}
 use Rattle.cones.proofs.Laws.Covers.{AtEntry, covers-at}
 use Rattle.cones.proofs.Laws.Coincident.{Counted, count-start, count-step, count-few}
-use Rattle.cones.proofs.walk.coincident_listed.Statement.{statement}
-use Rattle.cones.proofs.walk.coincident_listed.Tie as tie
+use Rattle.cones.proofs.walk.is_border.Statement.{statement}
+use Rattle.cones.proofs.walk.is_border.Tie as tie
 
 record Counting (vs : List ℤ) (l : List ℕ) (from to i count e : ℕ) : Type 0 where
   after : from ≤ e
@@ -90,8 +91,22 @@ more c =
     ∙ (λ j. cond (isCoincident (vs t) (ends t .before .vertex-at .ensures j) (ends t .end-of .ensures j)
     (c .before .wide .ensures j)) 1 0)
 
+-- One before edge i.
+returns : tie.Need-returns Inv-loop μ-loop
+returns c =
+    let d = c .before .before in
+    let t = d .before .before .before in
+    let s = start t in
+    sym (s .pre .0 .3 .tell (entry t) (omega (arith, d .before .wide .ensures, c .before .if1 .taken))
+    (one-held (test t (entry t)) (sym (more d) ∙ c .if2 .taken)))
+  where
+    one-held : (b : Bool) → _≡_ {A = ℕ} (cond b 1 0) 1 → b ≡ true
+    one-held true e = refl
+    one-held false e = absurd (omega (arith, e))
+
 add-count : tie.Need-add-count Inv-loop μ-loop
-add-count c =
+add-count d =
+    let c = d .before in
     let t = c .before .before .before in
     let few = count-few (t .before .loop .inv .counted) (entry t) (at t .before) in
     omega (arith, few, at t .below, start t .pre .0 .0 .most, one (test t (entry t)), more c)
@@ -104,10 +119,11 @@ add-e : tie.Need-add-e Inv-loop μ-loop
 add-e c = search needs
 
 loop-less : tie.Need-loop-less Inv-loop μ-loop
-loop-less c = search needs
+loop-less c = omega (arith, c .before .before .before .before .loop-test .taken)
 
 loop-again : tie.Need-loop-again Inv-loop μ-loop
-loop-again c =
+loop-again d =
+    let c = d .before in
     let t = c .before .before .before in
     record {
       after = omega (arith, t .before .loop .inv .after);
@@ -115,18 +131,19 @@ loop-again c =
       counted = rw (more c) (next t);
     }
 
-returns : tie.Need-returns Inv-loop μ-loop
-unfolding coincidentOf
-returns c =
+returns-2 : tie.Need-returns-2 Inv-loop μ-loop
+unfolding isBorder coincidentOf
+returns-2 c =
     let l = c .before in
     let s = l .before .before .before .before in
     let v = s .args .vertices .now in
     let last : s .args .to ≡ l .loop .e = omega (arith, c .loop-test .left, l .loop .inv .before) in
-    sym (l .loop .inv .counted .count (vertexCount v) (subst (λ b. Covers (λ j. isCoincident v (startOf v (s .args .i))
-    (endOf v (s .args .i)) j ≡ false) (s .args .list .now) (s .args .from) (vertexCount v) b) last (s .pre .1 .covers)))
+    ap (λ (k : ℕ). eqb (k % 2) 1)
+    (sym (l .loop .inv .counted .count (vertexCount v) (subst (λ b. Covers (λ j. isCoincident v (startOf v (s .args .i))
+    (endOf v (s .args .i)) j ≡ false) (s .args .list .now) (s .args .from) (vertexCount v) b) last (s .pre .1 .covers))))
 
-pub coincident-listed-spec : {M : Type 1} → statement M
-coincident-listed-spec =
+pub is-border-spec : {M : Type 1} → statement M
+is-border-spec =
     tie.close
     (tie.spec
     Inv-loop
@@ -138,8 +155,9 @@ coincident-listed-spec =
     shared-slice-read-wide
     wide-requires
     coincident-requires
+    returns
     add-count
     add-e
     loop-less
     loop-again
-    returns)
+    returns-2)
