@@ -1,6 +1,6 @@
-// The walk over a list of edges that is complete for the query. Here, in order: is_border, is_on_border,
-// test_listed (one edge); walk_list. Edges that join the same two directions hold the same points: those that are
-// coincident with an edge that holds the query are on the list too.
+// The walk over a list of edges that is complete for the query. Here, in order: is_border, is_on_border, test_listed
+// (one edge); walk_list. Edges that join the same two directions hold the same points: those that are coincident with
+// an edge that holds the query are on the list too.
 ghost use mathlib.Core.Path.{_≡_};
 ghost use mathlib.Core.Bool.{false};
 ghost use Prim.Native.Nat.{_<_};
@@ -30,8 +30,8 @@ use sphere::edge::on_edge_by;
 use sphere::plane::plane_through;
 use sphere::plane::side_of;
 
-// Edge i is border, where all edges that join the same two directions are listed. One of them before it, which is none,
-// tells that it is not: nothing more is counted.
+// Edge i is border, where all edges that join the same two directions are listed. Where one of them is before it, the
+// walk came past that one, so it is no border; nor is i, and nothing more is counted.
 fn is_border(vertices: &[i32], list: &[u16], from: usize, to: usize, i: usize) -> bool
     requires { ⌜ Listed (now vertices) × Gridded fine (now vertices) × (i < vertexCount (now vertices))
         × EarlierTell (now vertices) i ⌝ }

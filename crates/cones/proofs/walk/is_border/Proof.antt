@@ -1,5 +1,5 @@
--- `is_border` meets its contract: what was counted of the edges that the entries before e cover, and entry e,
--- are counted of those that the entries before e + 1 cover.
+-- `is_border` meets its contract: what was counted of the edges that the entries before e cover, and entry e, are
+-- counted of those that the entries before e + 1 cover. One that is coincident with edge i and before it settles it.
 use mathlib.Core.Path.{_≡_, refl, sym, _∙_, ap, subst}
 use mathlib.Core.Bool.{Bool, true, false, cond}
 use mathlib.Core.List.{List}
@@ -138,9 +138,9 @@ returns-2 c =
     let s = l .before .before .before .before in
     let v = s .args .vertices .now in
     let last : s .args .to ≡ l .loop .e = omega (arith, c .loop-test .left, l .loop .inv .before) in
-    ap (λ (k : ℕ). eqb (k % 2) 1)
-    (sym (l .loop .inv .counted .count (vertexCount v) (subst (λ b. Covers (λ j. isCoincident v (startOf v (s .args .i))
-    (endOf v (s .args .i)) j ≡ false) (s .args .list .now) (s .args .from) (vertexCount v) b) last (s .pre .1 .covers))))
+    let all = subst (λ b. Covers (λ j. isCoincident v (startOf v (s .args .i)) (endOf v (s .args .i)) j ≡ false)
+    (s .args .list .now) (s .args .from) (vertexCount v) b) last (s .pre .1 .covers) in
+    ap (λ (k : ℕ). eqb (k % 2) 1) (sym (l .loop .inv .counted .count (vertexCount v) all))
 
 pub is-border-spec : {M : Type 1} → statement M
 is-border-spec =

@@ -76,7 +76,8 @@ module _ (c : tie.After-wide Inv-loop μ-loop) where
 
 test-listed-requires : tie.Need-test-listed-requires Inv-loop μ-loop
 test-listed-requires c κs =
-    let none = none-before _ _ _ (omega arith) (none-start _ _) (own c .loop .inv .walked .tallied _ (at c .before)) in (
+    let own-tally = own c .loop .inv .walked .tallied _ (at c .before) in
+    let none = none-before _ _ _ (omega arith) (none-start _ _) own-tally in (
       (
         entry c .pre .0,
         omega (arith, c .wide .ensures, at c .below),
