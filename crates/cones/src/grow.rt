@@ -113,7 +113,7 @@ fn share(quota: usize, kept: usize, other: usize) -> usize {
 }
 
 // What is left of a quota.
-pub fn rest(quota: usize, before: usize, after: usize) -> usize {
+pub(crate) fn rest(quota: usize, before: usize, after: usize) -> usize {
     if after < before {
         return 0;
     }
