@@ -16,3 +16,5 @@ pub mod Spans
 pub mod Counted
 pub mod Looked
 pub mod Coincident
+pub mod Settled
+pub mod Held

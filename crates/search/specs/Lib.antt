@@ -3,4 +3,5 @@ pub mod Arc
 pub mod Scan
 pub mod Spans
 pub mod Walk
+pub mod Border
 pub mod Claims

@@ -1,8 +1,8 @@
 -- Document 02, P2: what a walk over some edges says, and the number of edges looked at. Defined, in order: testBy (one
--- edge); tallyBy, tallyFrom; NoneBefore; isLooked, reach, lookedFrom; asksBoxes, lookedIn (by the mode), reachOf, Among, isLookedBy
--- (as they are worked out). A walk goes over k edges from i on.
+-- edge); tallyBy, tallyOn, tallyFrom; NoneBefore, stopsAt; isLooked, reach, lookedFrom; asksBoxes, lookedIn (by the
+-- mode), reachOf, Among, isLookedBy (as they are worked out). A walk goes over k edges from i on.
 use mathlib.Core.Path.{_≡_}
-use mathlib.Core.Bool.{Bool, false, true, not, cond}
+use mathlib.Core.Bool.{Bool, false, true, not, _&&_, cond}
 use mathlib.Core.List.{List}
 use Prim.{Unit}
 use Prim.Native.Nat.{ℕ, suc, _-_, _/_, _<_}
@@ -11,7 +11,7 @@ use Rattle.sphere.specs.declared.point.Point.{Point}
 use Rattle.answer.specs.declared.Found.{Found}
 use Rattle.answer.specs.declared.Found.the-variants.{Nothing, At}
 use Rattle.answer.specs.Search.{firstFrom, countFrom, sumFrom}
-use Rattle.polygon.specs.Verdict.{isOnBorder, isCrossed, wayOf}
+use Rattle.polygon.specs.Verdict.{isHeldBy, isOnBorder, isCrossed, wayOf}
 use Rattle.search.specs.declared.walk.EdgeTest.{EdgeTest}
 use Rattle.search.specs.declared.walk.EdgeTest.the-variants.{OnBorder, Way}
 use Rattle.search.specs.declared.walk.Tally.{Tally}
@@ -26,18 +26,27 @@ use Rattle.search.specs.Boxes.{boxAt, isApart, isSkipped}
 abbrev pub testBy : Bool → ℤ → EdgeTest
 testBy held way = cond held OnBorder (Way way)
 
--- Some edges: the first border edge that holds the query, or else the crossings and their sum.
+-- Some edges: the first at which a test holds, that of border edges that hold the query, or else the crossings and
+-- their sum.
 abbrev pub tallyBy : Found → ℕ → ℤ → Tally
 tallyBy (At edge) crossed sum = Held edge
 tallyBy Nothing crossed sum = Crossed crossed sum
 
+abbrev pub tallyOn : (ℕ → Bool) → List ℤ → Point → Point → ℕ → ℕ → Tally
+tallyOn test vs X P i k =
+    tallyBy (firstFrom test i k) (countFrom (isCrossed vs X P) i k) (sumFrom (wayOf vs X P) i k)
+
 unfoldable pub tallyFrom : List ℤ → Point → Point → ℕ → ℕ → Tally
-tallyFrom vs X P i k =
-    tallyBy (firstFrom (isOnBorder vs P) i k) (countFrom (isCrossed vs X P) i k) (sumFrom (wayOf vs X P) i k)
+tallyFrom vs X P i k = tallyOn (isOnBorder vs P) vs X P i k
 
 -- For the code alone: no edge before i is border and holds P, so a walk comes to edge i.
 abbrev pub NoneBefore : List ℤ → Point → ℕ → Type 0
 NoneBefore vs P i = firstFrom (isOnBorder vs P) 0 i ≡ Nothing
+
+-- For the code alone: where a walk ends, at an edge that holds P, border or not; or nowhere, and the crossings of all
+-- edges are counted.
+abbrev pub stopsAt : List ℤ → Point → Bool → ℕ → Bool
+stopsAt vs P stop i = isHeldBy vs P i && stop
 
 -- ---- the edges looked at
 

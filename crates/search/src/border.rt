@@ -1,79 +1,162 @@
-// Whether an edge that holds the query is border: document 02's P3. Here, in order: coincident_run, is_border,
-// is_on_border. Edges that join the same two directions hold the same points: one that is coincident with an
-// edge that holds the query is not strictly on one side of the arc's plane, and so in no run that is skipped.
+// Which edge that holds the query is border: document 02's P3. Here, in order: mark_class, is_border (one edge);
+// held_or, next_held, is_new_border, first_border (all of them); tally_marked, tally_held, tally_arc (what all edges
+// say). Edges that join the same two directions, a class, hold the same points and are border together: each class is
+// counted once, from its first edge on.
 ghost use mathlib.Core.Path.{_≡_};
-ghost use mathlib.Core.Bool.{true};
-ghost use Prim.Native.Nat.{_*_, _-_, _<_};
-ghost use Rattle.integers.specs.Sign.{signOf};
-ghost use Rattle.sphere.specs.Orientation.{orientationOf};
-ghost use Rattle.answer.specs.Search.{countFrom};
+ghost use mathlib.Core.Bool.{true, false};
+ghost use Prim.Native.Nat.{_+_, _-_, _/_, _≤_, _<_};
+ghost use lib.ListN.{length};
+ghost use Rattle.answer.specs.declared.Found.the-variants.{At};
+ghost use Rattle.answer.specs.Search.{firstFrom, countFrom};
 ghost use Rattle.polygon.specs.Vertices.{vertexCount, startOf, endOf};
-ghost use Rattle.polygon.specs.Border.{isCoincident, isBorder};
-ghost use Rattle.polygon.specs.Verdict.{isHeldBy, isOnBorder};
+ghost use Rattle.polygon.specs.Border.{isCoincident, isBorder, Marked};
+ghost use Rattle.polygon.specs.Verdict.{isHeldBy, boundaryOf};
 ghost use Rattle.search.specs.Arc.{Searchable};
-ghost use Rattle.search.specs.Boxes.{runCount, runEnd};
-ghost use Rattle.search.specs.Walk.{NoneBefore};
+ghost use Rattle.search.specs.Spans.{runStart};
+ghost use Rattle.search.specs.Walk.{tallyFrom, stopsAt};
+ghost use Rattle.search.specs.Border.{Foremost, ClassMarked, heldOr, NextHeld, Settled};
 use crate::arc::Arc;
 use crate::boxes;
-use polygon::border::coincident_edges;
+use crate::spans::next_span;
+use crate::walk::Tally;
+use crate::walk::walk_edges;
+use crate::walk::walk_spans;
+use answer::Found;
+use polygon::border::mark_edges;
 use polygon::vertices::end_of;
 use polygon::vertices::vertex_at;
-use sphere::edge::on_edge_by;
+use sphere::plane::side_of;
 
-// How many edges of run r join the same two directions as edge i. One that is skipped has none.
-fn coincident_run(vertices: &[i32], boxes: &[i32], arc: Arc, i: usize, r: usize) -> u32
+// How many edges from the run of edge i on join the same two directions. They are marked, as far as there are marks. A
+// run that is skipped has none: one that is coincident with an edge that holds the query is not strictly on one side.
+fn mark_class(vertices: &[i32], boxes: &[i32], arc: Arc, i: usize, marks: &mut [u8]) -> u32
     requires { ⌜ Searchable (now vertices) (now boxes) arc × (i < vertexCount (now vertices))
         × (isHeldBy (now vertices) (arc .to) i ≡ true) ⌝ }
-    requires { ⌜ r < runCount (vertexCount (now vertices)) ⌝ }
-    ensures { λ k. ⌜ k ≡ countFrom (isCoincident (now (vertices .entry)) (startOf (now (vertices .entry)) i)
-        (endOf (now (vertices .entry)) i)) (r * 32) (runEnd (vertexCount (now (vertices .entry))) r - r * 32) ⌝ }
+    ensures { λ k. ⌜ (k ≡ countFrom (isCoincident (now (vertices .entry)) (startOf (now (vertices .entry)) i)
+        (endOf (now (vertices .entry)) i)) (runStart (vertexCount (now (vertices .entry))) (i / 32))
+        (vertexCount (now (vertices .entry)) - runStart (vertexCount (now (vertices .entry))) (i / 32)))
+        × Marked (isCoincident (now (vertices .entry)) (startOf (now (vertices .entry)) i)
+        (endOf (now (vertices .entry)) i)) (runStart (vertexCount (now (vertices .entry))) (i / 32))
+        (vertexCount (now (vertices .entry))) (now (marks .entry)) (now (marks .exit)) ⌝ }
+{
+    let c = vertex_at(vertices, i);
+    let d = end_of(vertices, i);
+    let mut r = i / 32;
+    let mut count: u32 = 0;
+    let total = loop {
+        let span = next_span(vertices, boxes, arc, r);
+        if span.from >= span.to {
+            break count;
+        }
+        count += mark_edges(vertices, c, d, span.from, span.to, marks);
+        r = span.next;
+    };
+    total
+}
+
+// Edge i is border, where it is the first of its class. All of the class are marked.
+fn is_border(vertices: &[i32], boxes: &[i32], arc: Arc, i: usize, marks: &mut [u8]) -> bool
+    requires { ⌜ Searchable (now vertices) (now boxes) arc × (i < vertexCount (now vertices))
+        × (isHeldBy (now vertices) (arc .to) i ≡ true) × Foremost (now vertices) i ⌝ }
+    ensures { λ r. ⌜ (r ≡ isBorder (now (vertices .entry)) i)
+        × ClassMarked (now (vertices .entry)) i (now (marks .entry)) (now (marks .exit)) ⌝ }
+{
+    mark_class(vertices, boxes, arc, i, marks) % 2 == 1
+}
+
+fn held_or(tally: Tally, end: usize) -> usize
+    ensures { λ r. ⌜ r ≡ heldOr tally end ⌝ }
+{
+    match tally {
+        Tally::Held(edge) => edge,
+        Tally::Crossed(_, _) => end,
+    }
+}
+
+// The first edge from `from` on that holds the query, or the end of all: one of its run, or of the runs after that.
+fn next_held(vertices: &[i32], boxes: &[i32], arc: Arc, from: usize) -> usize
+    requires { ⌜ Searchable (now vertices) (now boxes) arc × (from < vertexCount (now vertices)) ⌝ }
+    ensures { λ r. ⌜ NextHeld (now (vertices .entry)) (arc .to) from r ⌝ }
 {
     let n = vertices.len() / 3;
-    if arc.by_boxes {
-        if boxes::is_apart(arc.plane, boxes, r) {
-            return 0;
-        }
+    let run = from / 32;
+    let to = boxes::run_end(n, run);
+    let closing = side_of(arc.plane, vertex_at(vertices, 0));
+    let edge = held_or(walk_edges(vertices, arc, closing, from, to, true), to);
+    if edge < to {
+        return edge;
     }
-    let to = boxes::run_end(n, r);
-    coincident_edges(
-        vertices,
-        vertex_at(vertices, i),
-        end_of(vertices, i),
-        r * 32,
-        to,
-    )
+    held_or(walk_spans(vertices, boxes, arc, run + 1, true), n)
 }
 
-// An edge before i that is coincident with it holds the query too, and was found to be no border: nor is i. So where a
-// run before that of i has one, nothing more is counted.
-fn is_border(vertices: &[i32], boxes: &[i32], arc: Arc, i: usize) -> bool
+// Edge i, which holds the query, is border. One that is marked is not: its class was counted.
+fn is_new_border(vertices: &[i32], boxes: &[i32], arc: Arc, i: usize, marks: &mut [u8]) -> bool
     requires { ⌜ Searchable (now vertices) (now boxes) arc × (i < vertexCount (now vertices))
-        × (isHeldBy (now vertices) (arc .to) i ≡ true) × NoneBefore (now vertices) (arc .to) i ⌝ }
-    ensures { λ r. ⌜ r ≡ isBorder (now (vertices .entry)) i ⌝ }
+        × (isHeldBy (now vertices) (arc .to) i ≡ true) × Settled (now vertices) (arc .to) i (now marks) ⌝ }
+    ensures { λ r. ⌜ (r ≡ isBorder (now (vertices .entry)) i)
+        × (r ≡ false → Settled (now (vertices .entry)) (arc .to) (i + 1) (now (marks .exit))) ⌝ }
 {
-    let runs = boxes::run_count(vertices.len() / 3);
-    let mut count: u32 = 0;
-    for r in 0..runs {
-        let more = coincident_run(vertices, boxes, arc, i, r);
-        if more > 0 {
-            if r < i / 32 {
-                return false;
-            }
-        }
-        count += more;
+    if marks[i] == 1 {
+        return false;
     }
-    count % 2 == 1
+    is_border(vertices, boxes, arc, i, marks)
 }
 
-// Edge i holds the query and is border; by side, which has the sign of the orientation of its ends and the query.
-pub fn is_on_border(vertices: &[i32], boxes: &[i32], arc: Arc, i: usize, side: i64) -> bool
-    requires { ⌜ Searchable (now vertices) (now boxes) arc × (i < vertexCount (now vertices))
-        × NoneBefore (now vertices) (arc .to) i ⌝ }
-    requires { ⌜ signOf side ≡ signOf (orientationOf (startOf (now vertices) i) (endOf (now vertices) i) (arc .to)) ⌝ }
-    ensures { λ r. ⌜ r ≡ isOnBorder (now (vertices .entry)) (arc .to) i ⌝ }
+// The first border edge that holds the query, by marks: one for each edge whose class was counted, and is no border.
+fn first_border(vertices: &[i32], boxes: &[i32], arc: Arc) -> Found
+    requires { ⌜ Searchable (now vertices) (now boxes) arc ⌝ }
+    ensures { λ r. ⌜ r ≡ boundaryOf (now (vertices .entry)) (arc .to) ⌝ }
 {
-    if on_edge_by(vertex_at(vertices, i), end_of(vertices, i), arc.to, side) {
-        return is_border(vertices, boxes, arc, i);
+    let n = vertices.len() / 3;
+    let mut marks = [0u8; 4096];
+    let mut i = 0;
+    while i < n {
+        let edge = next_held(vertices, boxes, arc, i);
+        if edge >= n {
+            return Found::Nothing;
+        }
+        if is_new_border(vertices, boxes, arc, edge, &mut marks) {
+            return Found::At(edge);
+        }
+        i = edge + 1;
     }
-    false
+    Found::Nothing
+}
+
+// What all edges say, whichever of those that hold the query are border.
+fn tally_marked(vertices: &[i32], boxes: &[i32], arc: Arc) -> Tally
+    requires { ⌜ Searchable (now vertices) (now boxes) arc ⌝ }
+    ensures { λ r. ⌜ r ≡ tallyFrom (now (vertices .entry)) (arc .from) (arc .to) 0
+        (vertexCount (now (vertices .entry))) ⌝ }
+{
+    match first_border(vertices, boxes, arc) {
+        Found::Nothing => walk_spans(vertices, boxes, arc, 0, false),
+        Found::At(edge) => Tally::Held(edge),
+    }
+}
+
+// The same, where `first` is the first edge that holds the query. Most often it is border, and no mark is needed.
+fn tally_held(vertices: &[i32], boxes: &[i32], arc: Arc, first: usize) -> Tally
+    requires { ⌜ Searchable (now vertices) (now boxes) arc ⌝ }
+    requires { ⌜ firstFrom (stopsAt (now vertices) (arc .to) true) 0 (vertexCount (now vertices)) ≡ At first ⌝ }
+    ensures { λ r. ⌜ r ≡ tallyFrom (now (vertices .entry)) (arc .from) (arc .to) 0
+        (vertexCount (now (vertices .entry))) ⌝ }
+{
+    let mut unmarked = [0u8; 1];
+    if is_border(vertices, boxes, arc, first, &mut unmarked) {
+        return Tally::Held(first);
+    }
+    tally_marked(vertices, boxes, arc)
+}
+
+// What all edges say of a query, by the arc to it.
+pub(crate) fn tally_arc(vertices: &[i32], boxes: &[i32], arc: Arc) -> Tally
+    requires { ⌜ Searchable (now vertices) (now boxes) arc ⌝ }
+    ensures { λ r. ⌜ r ≡ tallyFrom (now (vertices .entry)) (arc .from) (arc .to) 0
+        (vertexCount (now (vertices .entry))) ⌝ }
+{
+    match walk_spans(vertices, boxes, arc, 0, true) {
+        Tally::Held(edge) => tally_held(vertices, boxes, arc, edge),
+        Tally::Crossed(crossed, sum) => Tally::Crossed(crossed, sum),
+    }
 }

@@ -1,23 +1,25 @@
 // The walk over a polygon's edges: document 01's 'When the arc crosses a side', and document 02's P2. Here, in order:
-// EdgeTest, test_edge (one edge); counted, Tally, tally_by, walk_edges (some edges); walk_spans, tally_edges,
-// Searched, uncounted, count_edges, Mode, search_edges (all).
+// EdgeTest, stops_at, test_edge (one edge); counted, Tally, tally_by, walk_edges (some edges); walk_spans, tally_edges,
+// Searched, uncounted, count_edges, Mode, search_edges (all). Which edges that hold the query are border: module border.
 ghost use mathlib.Core.Path.{_≡_};
 ghost use mathlib.Core.Bool.{cond};
 ghost use Prim.Native.Nat.{_-_, _≤_, _<_};
 ghost use Rattle.integers.specs.Sign.{signOf, isZero};
 ghost use Rattle.sphere.specs.Point.{limitOf, Within};
+ghost use Rattle.sphere.specs.Orientation.{orientationOf};
 ghost use Rattle.answer.specs.declared.Check.the-variants.{Passed};
 ghost use Rattle.polygon.specs.Checks.{acceptCheck};
-ghost use Rattle.polygon.specs.Vertices.{vertexCount};
-ghost use Rattle.polygon.specs.Verdict.{isOnBorder, wayOf};
-ghost use Rattle.search.specs.Arc.{Searchable};
-ghost use Rattle.search.specs.Boxes.{Boxed};
+ghost use Rattle.polygon.specs.Vertices.{vertexCount, startOf, endOf};
+ghost use Rattle.polygon.specs.Verdict.{wayOf};
+ghost use Rattle.search.specs.Arc.{AcceptedArc, Searchable};
+ghost use Rattle.search.specs.Boxes.{runCount, Boxed};
 ghost use Rattle.search.specs.Scan.{Sided, EndSides};
-ghost use Rattle.search.specs.Walk.{testBy, tallyBy, tallyFrom, lookedFrom};
-ghost use Rattle.search.specs.Walk.{lookedIn, NoneBefore};
+ghost use Rattle.search.specs.Spans.{runStart};
+ghost use Rattle.search.specs.Walk.{testBy, tallyBy, stopsAt, tallyOn, tallyFrom, lookedFrom};
+ghost use Rattle.search.specs.Walk.{lookedIn};
 use crate::arc::Arc;
 use crate::arc::arc_between;
-use crate::border::is_on_border;
+use crate::border::tally_arc;
 use crate::looked::looked_before;
 use crate::looked::reach_of;
 use crate::scan::Near;
@@ -29,22 +31,36 @@ use polygon::vertices::end_of;
 use polygon::vertices::vertex_at;
 use sphere::crossing::crossing_from;
 use sphere::crossing::is_beside;
+use sphere::edge::on_edge_by;
 use sphere::plane::plane_through;
 use sphere::plane::side_of;
 use sphere::point::Grid;
 use sphere::point::Point;
 
-// What one edge says of a query: it is border and holds it, or which way the arc crosses it (0: not at all).
+// What one edge says of a query: it is border and holds it, or which way the arc crosses it (0: not at all). Here, where
+// a walk asks for edges that hold the query, the first says so of any that does.
 pub enum EdgeTest {
     OnBorder,
     Way(i32),
 }
 
+// Whether the walk ends at edge i, which holds the query; by side, which has the sign of the orientation of its ends and
+// the query.
+fn stops_at(vertices: &[i32], arc: Arc, stop: bool, i: usize, side: i64) -> bool
+    requires { ⌜ AcceptedArc (now vertices) arc × (i < vertexCount (now vertices)) ⌝ }
+    requires { ⌜ signOf side ≡ signOf (orientationOf (startOf (now vertices) i) (endOf (now vertices) i) (arc .to)) ⌝ }
+    ensures { λ r. ⌜ r ≡ stopsAt (now (vertices .entry)) (arc .to) stop i ⌝ }
+{
+    if on_edge_by(vertex_at(vertices, i), end_of(vertices, i), arc.to, side) {
+        return stop;
+    }
+    false
+}
+
 // Its own two orientations are worked out only where its ends are not strictly on one side.
-fn test_edge(vertices: &[i32], boxes: &[i32], arc: Arc, near: Near) -> EdgeTest
-    requires { ⌜ Searchable (now vertices) (now boxes) arc × EndSides (now vertices) (arc .from) (arc .to) near
-        × NoneBefore (now vertices) (arc .to) (near .edge) ⌝ }
-    ensures { λ r. ⌜ r ≡ testBy (isOnBorder (now (vertices .entry)) (arc .to) (near .edge))
+fn test_edge(vertices: &[i32], arc: Arc, stop: bool, near: Near) -> EdgeTest
+    requires { ⌜ AcceptedArc (now vertices) arc × EndSides (now vertices) (arc .from) (arc .to) near ⌝ }
+    ensures { λ r. ⌜ r ≡ testBy (stopsAt (now (vertices .entry)) (arc .to) stop (near .edge))
         (wayOf (now (vertices .entry)) (arc .from) (arc .to) (near .edge)) ⌝ }
 {
     if is_beside(near.start, near.end) {
@@ -55,7 +71,7 @@ fn test_edge(vertices: &[i32], boxes: &[i32], arc: Arc, near: Near) -> EdgeTest
     let grid = plane.grid;
     let edge = plane_through(grid, vertex_at(vertices, i), end_of(vertices, i));
     let side = side_of(edge, arc.to);
-    if is_on_border(vertices, boxes, arc, i, side) {
+    if stops_at(vertices, arc, stop, i, side) {
         return EdgeTest::OnBorder;
     }
     EdgeTest::Way(crossing_from(edge, arc.from, near.start, near.end, side))
@@ -71,7 +87,8 @@ pub fn counted(way: i32) -> u32
     1
 }
 
-// What some edges say: the first border edge that holds the query, or else the crossings and their sum.
+// What some edges say: the first that is border and holds the query, or by a walk any that holds it; or else the
+// crossings and their sum.
 pub enum Tally {
     Held(usize),
     Crossed(u32, i32),
@@ -86,19 +103,20 @@ pub fn tally_by(found: Found, crossed: u32, sum: i32) -> Tally
     }
 }
 
-// One pass over the edges before `to`: the first border edge that holds the query ends it, and the crossings are
-// counted and summed on the way. `closing` is the side of vertex 0.
-fn walk_edges(
+// One pass over the edges before `to`: the first that holds the query ends it, or none where `stop` says so, and the
+// crossings are counted and summed on the way. `closing` is the side of vertex 0.
+pub(crate) fn walk_edges(
     vertices: &[i32],
-    boxes: &[i32],
     arc: Arc,
     closing: i64,
     from: usize,
     to: usize,
+    stop: bool,
 ) -> Tally
-    requires { ⌜ Searchable (now vertices) (now boxes) arc × Sided (now vertices) (arc .plane .normal) 0 closing ⌝ }
-    requires { ⌜ (from < to) × (to ≤ vertexCount (now vertices)) × NoneBefore (now vertices) (arc .to) from ⌝ }
-    ensures { λ r. ⌜ r ≡ tallyFrom (now (vertices .entry)) (arc .from) (arc .to) from (to - from) ⌝ }
+    requires { ⌜ AcceptedArc (now vertices) arc × Sided (now vertices) (arc .plane .normal) 0 closing ⌝ }
+    requires { ⌜ (from < to) × (to ≤ vertexCount (now vertices)) ⌝ }
+    ensures { λ r. ⌜ r ≡ tallyOn (stopsAt (now (vertices .entry)) (arc .to) stop) (now (vertices .entry)) (arc .from)
+        (arc .to) from (to - from) ⌝ }
 {
     let mut i = from;
     let mut side = side_at(vertices, arc.plane, closing, from);
@@ -109,7 +127,7 @@ fn walk_edges(
         if near.edge >= to {
             break Found::Nothing;
         }
-        let way = match test_edge(vertices, boxes, arc, near) {
+        let way = match test_edge(vertices, arc, stop, near) {
             EdgeTest::OnBorder => break Found::At(near.edge),
             EdgeTest::Way(way) => way,
         };
@@ -121,14 +139,15 @@ fn walk_edges(
     tally_by(found, crossed, sum)
 }
 
-// All edges but those of runs that are skipped, in order, up to the first border edge that holds the query.
-fn walk_spans(vertices: &[i32], boxes: &[i32], arc: Arc) -> Tally
-    requires { ⌜ Searchable (now vertices) (now boxes) arc ⌝ }
-    ensures { λ r. ⌜ r ≡ tallyFrom (now (vertices .entry)) (arc .from) (arc .to) 0
-        (vertexCount (now (vertices .entry))) ⌝ }
+// All edges from a run on but those of runs that are skipped, in order, as far as walk_edges goes.
+pub(crate) fn walk_spans(vertices: &[i32], boxes: &[i32], arc: Arc, run: usize, stop: bool) -> Tally
+    requires { ⌜ Searchable (now vertices) (now boxes) arc × (run ≤ runCount (vertexCount (now vertices))) ⌝ }
+    ensures { λ r. ⌜ r ≡ tallyOn (stopsAt (now (vertices .entry)) (arc .to) stop) (now (vertices .entry)) (arc .from)
+        (arc .to) (runStart (vertexCount (now (vertices .entry))) run)
+        (vertexCount (now (vertices .entry)) - runStart (vertexCount (now (vertices .entry))) run) ⌝ }
 {
     let closing = side_of(arc.plane, vertex_at(vertices, 0));
-    let mut r = 0;
+    let mut r = run;
     let mut crossed: u32 = 0;
     let mut sum: i32 = 0;
     let found = loop {
@@ -136,7 +155,7 @@ fn walk_spans(vertices: &[i32], boxes: &[i32], arc: Arc) -> Tally
         if span.from >= span.to {
             break Found::Nothing;
         }
-        match walk_edges(vertices, boxes, arc, closing, span.from, span.to) {
+        match walk_edges(vertices, arc, closing, span.from, span.to, stop) {
             Tally::Held(edge) => break Found::At(edge),
             Tally::Crossed(more, ways) => {
                 crossed += more;
@@ -161,7 +180,7 @@ fn tally_edges(
         × Boxed (now vertices) (now boxes) ⌝ }
     ensures { λ r. ⌜ r ≡ tallyFrom (now (vertices .entry)) known query 0 (vertexCount (now (vertices .entry))) ⌝ }
 {
-    walk_spans(vertices, boxes, arc_between(grid, known, query, by_boxes))
+    tally_arc(vertices, boxes, arc_between(grid, known, query, by_boxes))
 }
 
 // The same, and how many edges are looked at for it (document 02, P2).
@@ -186,7 +205,7 @@ fn count_edges(grid: Grid, vertices: &[i32], boxes: &[i32], known: Point, query:
         × (r .looked ≡ lookedFrom (now (vertices .entry)) known query 0 (vertexCount (now (vertices .entry)))) ⌝ }
 {
     let arc = arc_between(grid, known, query, true);
-    let tally = walk_spans(vertices, boxes, arc);
+    let tally = tally_arc(vertices, boxes, arc);
     let looked = looked_before(boxes, arc.plane, reach_of(tally, vertices.len() / 3));
     Searched {
         tally: tally,

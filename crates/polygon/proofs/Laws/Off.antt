@@ -1,67 +1,66 @@
--- Points off a direction, by one number of the cross product. Proved, in order: off-not-same, off-not-joined (an
+-- Points off a direction, by one number of the cross product or their sum. Proved, in order: off-not-same, off-not-joined (an
 -- edge with both ends off C joins no direction to C's); off-start, off-step, off-elsewhere, elsewhere-none (as a loop
 -- goes); unjoined-start, unjoined-append, unjoined-step, counted-one, counted-none (edges);
 -- joined-more, joined-rest (how many).
-use mathlib.Core.Path.{_≡_, refl, sym, _∙_}
-use mathlib.Core.Logic.{_⊎_, inl, inr, ⊎-elim}
-use mathlib.Core.Bool.{Bool, true, false, not, _&&_, cond, true≢false}
+use mathlib.Core.Path.{_≡_, refl, sym, _∙_, ap}
+use mathlib.Core.Bool.{Bool, true, false, not, cond, true≢false}
 use mathlib.Core.List.{List}
 use Prim.Native.Nat.{ℕ, _+_, _-_, _≤_, _<_}
 use native.Mathlib.Omega.{arith}
 use borrow.Author.Tests.{ltb-true, ltb-false}
 use lib.Dec.{eqb, ltb}
-use lib.IntN.{ℤ}
-use Rattle.integers.specs.Sign.{signOf, isZero}
+use lib.IntN.{ℤ, pos, _+ℤ_}
+use Rattle.integers.specs.Sign.{signOf, isZero, isPositive}
 use Rattle.sphere.specs.declared.point.Point.{Point}
-use Rattle.sphere.specs.Point.{isNull}
-use Rattle.sphere.specs.Orientation.{crossOf}
+use Rattle.sphere.specs.Point.{isNull, origin}
+use Rattle.sphere.specs.Orientation.{crossOf, dotOf}
 use Rattle.sphere.specs.Direction.{isSameDirection}
+use Rattle.sphere.proofs.Laws.Orientation.{null→origin}
+use Rattle.integers.proofs.Table.{and-l}
 use Rattle.polygon.specs.Vertices.{vertexCount, vertexAt, startOf, endOf}
-use Rattle.polygon.specs.Border.{joinsOf, isCoincident, isOff, OffBetween, Elsewhere}
+use Rattle.polygon.specs.Border.{joinsOf, isCoincident, numberOf, sumOf, isOff, OffBetween, Elsewhere}
 use Rattle.polygon.specs.Border.{Unjoined, NextJoined}
 use Rattle.answer.specs.Search.{countFrom}
 use Rattle.answer.proofs.Laws.Blocks.{count-append, count-none}
 use Rattle.polygon.proofs.Laws.Edges.{next-start}
 
-not-true : (b : Bool) → not b ≡ true → b ≡ false
-not-true true e = absurd (true≢false (sym e))
-not-true false e = refl
-
-zero-and : (x y z q : Bool) → (x ≡ false) ⊎ (y ≡ false) ⊎ (z ≡ false) → ((x && (y && z)) && q) ≡ false
-zero-and false y z q h = refl
-zero-and true false z q h = refl
-zero-and true true false q h = refl
-zero-and true true true q h = absurd (true≢false (⊎-elim (λ e. e) (λ h. ⊎-elim (λ e. e) (λ e. e) h) h))
+-- Where the cross product is null, so is each number by which it is asked.
+none-off : (s t u : Bool) → not (isZero (signOf (cond s (pos 0 +ℤ pos 0 +ℤ pos 0) (cond t (pos 0) (cond u (pos 0) (pos 0))))))
+    ≡ false
+none-off true t u = refl
+none-off false true u = refl
+none-off false false true = refl
+none-off false false false = refl
 
 pub off-not-same : (axis : ℕ) (C P : Point) → isOff axis C P ≡ true → isSameDirection C P ≡ false
-unfolding isSameDirection isNull
-off-not-same axis C P e = zero-and _ _ _ _ (go (eqb axis 0) (eqb axis 1) e)
+unfolding isSameDirection
+off-not-same axis C P e = go (isSameDirection C P) refl
   where
-    go : (s t : Bool) → not (isZero (signOf (cond s (crossOf C P .x) (cond t (crossOf C P .y) (crossOf C P .z))))) ≡ true →
-        (isZero (signOf (crossOf C P .x)) ≡ false)
-        ⊎ (isZero (signOf (crossOf C P .y)) ≡ false) ⊎ (isZero (signOf (crossOf C P .z)) ≡ false)
-    go true t e = inl (not-true _ e)
-    go false true e = inr (inl (not-true _ e))
-    go false false e = inr (inr (not-true _ e))
+    go : (t : Bool) → isSameDirection C P ≡ t → isSameDirection C P ≡ false
+    go false h = h
+    go true h =
+        let line : crossOf C P ≡ origin = null→origin (crossOf C P) (and-l (isNull (crossOf C P)) (isPositive (signOf (dotOf C P))) (rw h tt)) in
+        absurd (true≢false (sym e ∙ ap (λ n. not (isZero (signOf (cond (eqb axis 3) (sumOf n) (numberOf axis n))))) line
+        ∙ none-off (eqb axis 3) (eqb axis 0) (eqb axis 1)))
 
-pub off-not-joined : (axis : ℕ) (C D A B : Point) → isOff axis C A ≡ true → isOff axis C B ≡ true →
+pub off-not-joined : (C D A B : Point) → isSameDirection C A ≡ false → isSameDirection C B ≡ false →
     joinsOf C D A B ≡ false
 unfolding joinsOf
-off-not-joined axis C D A B a b = rw (off-not-same axis C A a, off-not-same axis C B b)
+off-not-joined C D A B a b = rw (a, b)
 
 -- ---- as a loop over the vertices goes
-module _ {vs : List ℤ} {axis : ℕ} {C : Point} {i : ℕ} where
-  pub off-start : OffBetween vs axis C i i
+module _ {vs : List ℤ} {C : Point} {i : ℕ} where
+  pub off-start : OffBetween vs C i i
   off-start = record { after = omega arith; each = λ j h l. absurd (omega (arith, h, l)) }
 
-  module _ {at : ℕ} (o : OffBetween vs axis C i at) where
-    pub off-step : isOff axis C (vertexAt vs at) ≡ true → OffBetween vs axis C i (at + 1)
+  module _ {at : ℕ} (o : OffBetween vs C i at) where
+    pub off-step : isSameDirection C (vertexAt vs at) ≡ false → OffBetween vs C i (at + 1)
     off-step e = record {
       after = omega (arith, o .after);
       each = λ j h l. go (ltb j at) refl h l;
     }
       where
-        go : (t : Bool) {j : ℕ} → ltb j at ≡ t → i ≤ j → j < at + 1 → isOff axis C (vertexAt vs j) ≡ true
+        go : (t : Bool) {j : ℕ} → ltb j at ≡ t → i ≤ j → j < at + 1 → isSameDirection C (vertexAt vs j) ≡ false
         go true {j} t h l = o .each j h (ltb-true j at t)
         go false {j} t h l = let last : j ≡ at = omega (arith, ltb-false j at t, l) in rw last e
 
@@ -69,7 +68,7 @@ module _ {vs : List ℤ} {axis : ℕ} {C : Point} {i : ℕ} where
     pub off-elsewhere : (last : ℕ) → i ≤ last → last + 1 ≡ at → at ≤ vertexCount vs → Elsewhere vs C i last
     off-elsewhere last h e m = record {
       after = h;
-      each = λ D j k l. off-not-joined axis C D (startOf vs j) (endOf vs j) (o .each j k (omega (arith, l, e)))
+      each = λ D j k l. off-not-joined C D (startOf vs j) (endOf vs j) (o .each j k (omega (arith, l, e)))
           (rw (next-start vs j (j + 1) refl (omega (arith, l, e, m))) (o .each (j + 1) (omega (arith, k)) (omega (arith, l, e))));
     }
 

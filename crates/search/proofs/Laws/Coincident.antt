@@ -1,6 +1,6 @@
 -- Edges that join the same two directions (document 02, P3). Proved, in order: joins-held (they hold the same points),
 -- not-coincident (an edge that does not hold P with one that does), one-sided-not-coincident,
--- skipped-not-coincident; earlier-not-border, counted-not-border (some before edge i, where none before it is border).
+-- skipped-not-coincident; earlier-not-border (one before edge i, where none before it is border).
 use mathlib.Core.Path.{_≡_, refl, sym, _∙_, ap}
 use mathlib.Core.Bool.{Bool, true, false, _&&_, _||_, true≢false}
 use mathlib.Core.List.{List}
@@ -18,7 +18,6 @@ use Rattle.sphere.proofs.Laws.OnEdge.{on-edge-swap, on-edge-aligned}
 use Rattle.polygon.specs.Vertices.{vertexCount, startOf, endOf}
 use Rattle.polygon.specs.Border.{joinsOf, isCoincident, isBorder}
 use Rattle.polygon.specs.Verdict.{isHeldBy, isOnBorder}
-use Rattle.answer.proofs.Laws.Blocks.{count-none}
 use Rattle.answer.proofs.Laws.Search.{first-none}
 use Rattle.polygon.proofs.Laws.Checks.{OffCircles}
 use Rattle.polygon.proofs.Laws.Directions.{border-same}
@@ -26,7 +25,6 @@ use Rattle.search.specs.Boxes.{isSkipped}
 use Rattle.search.specs.Claims.{InRun}
 use Rattle.search.specs.Scan.{isOneSided}
 use Rattle.search.specs.Walk.{NoneBefore}
-use Rattle.search.proofs.Laws.Counted.{Counted}
 use Rattle.search.proofs.Laws.Runs.{run-within}
 use Rattle.search.proofs.Laws.Skipped.{skipped-one-sided}
 use Rattle.search.proofs.Laws.OneSided.{one-sided-not-held}
@@ -79,22 +77,3 @@ module _ (vs : List ℤ) (X P : Point) (off : OffCircles vs X) (i : ℕ) (h : i 
         (off i h) (off j (omega (arith, l, h))) (rw e tt)) ∙ held in
         sym (border-same vs i j e) ∙ sym (ap (λ b. b && isBorder vs j) here)
         ∙ first-none (isOnBorder vs P) 0 i j none (omega arith) (omega (arith, l))
-
-    pub counted-not-border : {k count : ℕ} → k ≤ i → Counted (isCoincident vs (startOf vs i) (endOf vs i)) 0 k count →
-        0 < count → isBorder vs i ≡ false
-    counted-not-border {k} {count} l c some = go (isBorder vs i) refl
-      where
-        apart : isBorder vs i ≡ true → (j : ℕ) → j < i → isCoincident vs (startOf vs i) (endOf vs i) j ≡ false
-        apart border j m = step (isCoincident vs (startOf vs i) (endOf vs i) j) refl
-          where
-            step : (t : Bool) → isCoincident vs (startOf vs i) (endOf vs i) j ≡ t →
-                isCoincident vs (startOf vs i) (endOf vs i) j ≡ false
-            step true e = absurd (true≢false (sym border ∙ earlier-not-border j m e))
-            step false e = e
-
-        go : (t : Bool) → isBorder vs i ≡ t → isBorder vs i ≡ false
-        go true e =
-            let zero = count-none (isCoincident vs (startOf vs i) (endOf vs i)) 0 (k - 0)
-            (λ j g m. apart e j (omega (arith, m, l))) in
-            absurd (omega (arith, zero, c .before, some))
-        go false e = e

@@ -1,11 +1,11 @@
 -- What a loop has counted before i, from `from` on. Defined: Counted. Proved, in order: counted-start, counted-block (k
--- numbers more), counted-few; runs-start, runs-step, runs-end (as a loop over runs goes).
+-- numbers more), counted-past, counted-few; runs-start, runs-step, runs-end (as a loop over runs goes).
 use mathlib.Core.Path.{_≡_, sym, _∙_, ap, subst}
-use mathlib.Core.Bool.{Bool}
+use mathlib.Core.Bool.{Bool, false}
 use Prim.Native.Nat.{ℕ, _+_, _*_, _-_, _≤_, _<_}
 use native.Mathlib.Omega.{arith}
 use Rattle.answer.specs.Search.{countFrom}
-use Rattle.answer.proofs.Laws.Blocks.{count-append, count-bound}
+use Rattle.answer.proofs.Laws.Blocks.{count-append, count-bound, count-none}
 use Rattle.search.specs.Boxes.{runCount, runEnd}
 use Rattle.search.specs.Spans.{runStart}
 use Rattle.search.proofs.Laws.Runs.{run-known, run-next, start-of, start-last}
@@ -26,6 +26,14 @@ module _ (test : ℕ → Bool) where
         record {
           before = rw (on, e) (count-append test from (i - from) k ∙ rw (here, c .before));
         }
+
+    -- numbers at which the test fails
+    pub counted-past : (to : ℕ) → i ≤ to → ((j : ℕ) → i ≤ j → j < to → test j ≡ false) → Counted test from to count
+    counted-past to l none =
+        let there : i + (to - i) ≡ to = omega arith in
+        let plain : count + 0 ≡ count = omega arith in
+        subst (λ i. Counted test from i count) there (subst (λ c. Counted test from (i + (to - i)) c) plain
+        (counted-block (to - i) (sym (count-none test i (to - i) (λ j k m. none j k (omega (arith, m, l)))))))
 
   pub counted-few : {from i count : ℕ} → Counted test from i count → count ≤ i - from
   counted-few {from} {i} c = rw (← c .before) (count-bound test from (i - from))

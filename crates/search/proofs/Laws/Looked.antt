@@ -17,8 +17,9 @@ use Rattle.polygon.specs.Verdict.{isOnBorder}
 use Rattle.answer.proofs.Laws.First.{Each, each-first, each-rest, first-found}
 use Rattle.answer.proofs.Laws.Blocks.{count-bound}
 use Rattle.search.specs.declared.walk.Tally.{Tally}
-use Rattle.search.specs.Boxes.{runCount, Boxed, isSkipped}
+use Rattle.search.specs.Boxes.{Boxed, isSkipped}
 use Rattle.search.specs.Walk.{tallyBy, tallyFrom, isLooked, reach, lookedFrom, reachOf, Among, isLookedBy}
+use Rattle.search.proofs.Laws.Runs.{run-of}
 
 -- ---- by the definition
 reach-bound : (found : Found) (i k : ℕ) → ((edge : ℕ) → found ≡ At edge → edge < i + k) → reach found i k ≤ k
@@ -57,10 +58,6 @@ unfolding countFrom
 count-same f g i zero all = refl
 count-same f g i (suc k) all =
     rw (each-first (λ j. f j ≡ g j) i k all, count-same f g (suc i) k (each-rest (λ j. f j ≡ g j) i k all))
-
-run-of : (n j : ℕ) → j < n → j / 32 < runCount n
-unfolding runCount
-run-of n j h = omega arith
 
 module _ {vs boxes : List ℤ} (X P : Point) {N : Point} (b : Boxed vs boxes) (e : N ≡ crossOf X P) where
   pub looked-same : (k : ℕ) → k ≤ vertexCount vs →

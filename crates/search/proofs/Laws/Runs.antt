@@ -1,4 +1,4 @@
--- Runs of 32 edges. Defined: Ends, Run, Between. Proved, in order: run-ends, run-within, run-known, run-few, runs-few,
+-- Runs of 32 edges. Defined: Ends, Run, Between. Proved, in order: run-ends, run-within, run-known, run-few, run-of, run-holds, runs-few,
 -- runs-below; start-of, start-last, start-runs, run-next (where a run begins), between (the edges from there to where
 -- another one does).
 use mathlib.Core.Path.{_≡_, refl}
@@ -59,6 +59,17 @@ pub run-few : (n r : ℕ) → n ≤ 4096 → r < runCount n → r < 128
 unfolding runCount
 run-few n r h k = omega arith
 
+pub run-of : (n j : ℕ) → j < n → j / 32 < runCount n
+unfolding runCount
+run-of n j h = omega arith
+
+pub run-holds : (n j : ℕ) → j < n → j < runEnd n (j / 32)
+run-holds n j h = go (runEnd n (j / 32)) (run-ends n (j / 32))
+  where
+    go : (to : ℕ) → Ends n (j / 32) to → j < to
+    go to (full e) = omega arith
+    go to (last e) = omega (arith, h)
+
 pub runs-few : (n : ℕ) → n ≤ 4096 → runCount n ≤ 128
 unfolding runCount
 runs-few n h = omega arith
@@ -103,9 +114,5 @@ between n a b j h l = record {
   before = omega arith;
   some = omega arith;
   after = omega arith;
-  ends = go (runEnd n (j / 32)) (run-ends n (j / 32));
+  ends = run-holds n j (omega arith);
 }
-  where
-    go : (to : ℕ) → Ends n (j / 32) to → j < to
-    go to (full e) = omega arith
-    go to (last e) = omega (arith, l)

@@ -24,10 +24,10 @@ searchable c =
     arc-searchable (s .args .grid) (s .args .known) (s .args .query) true (s .pre .0) (s .pre .1) (s .pre .2)
     (c .arc-between .ensures)
 
-walk-spans-requires : tie.Need-walk-spans-requires
-walk-spans-requires c κs = searchable c
+tally-arc-requires : tie.Need-tally-arc-requires
+tally-arc-requires c κs = searchable c
 
-module _ (c : tie.After-walk-spans) where
+module _ (c : tie.After-tally-arc) where
   abbrev n : ℕ
   n = vertexCount (c .before .before .args .vertices .now)
 
@@ -37,14 +37,14 @@ module _ (c : tie.After-walk-spans) where
 reach-of-requires : tie.Need-reach-of-requires
 reach-of-requires c κs =
     let arc = c .before .arc-between .result in
-    (most c, subst (λ t. Among t (n c)) (sym (c .walk-spans .ensures)) (tally-among _ (arc .from) (arc .to) (n c)))
+    (most c, subst (λ t. Among t (n c)) (sym (c .tally-arc .ensures)) (tally-among _ (arc .from) (arc .to) (n c)))
 
 -- The search comes to no more edges than there are.
 reached : (c : tie.After-reach-of) → c .reach-of .result ≤ n (c .before)
 reached c =
     let arc = c .before .before .arc-between .result in
     let vs = c .before .before .before .args .vertices .now in
-    let e = c .reach-of .ensures ∙ ap (λ t. reachOf t (n (c .before))) (c .before .walk-spans .ensures)
+    let e = c .reach-of .ensures ∙ ap (λ t. reachOf t (n (c .before))) (c .before .tally-arc .ensures)
     ∙ reach-tally vs (arc .from) (arc .to) (n (c .before)) in
     omega (arith, e, reach-within vs (arc .from) (arc .to) 0 (n (c .before)))
 
@@ -60,12 +60,12 @@ returns c =
     let arc = w .before .arc-between .result in
     let s = searchable (w .before) in
     let vs = w .before .before .args .vertices .now in (
-      w .walk-spans .ensures
+      w .tally-arc .ensures
           ∙ ap (λ arc. tallyFrom vs (arc .from) (arc .to) 0 (vertexCount vs)) (w .before .arc-between .ensures),
       c .looked-before .ensures
           ∙ ap (countFrom (isLookedBy (w .before .before .args .boxes .now) (arc .plane .normal)) 0)
           (c .before .reach-of .ensures)
-          ∙ looked-edges (arc .from) (arc .to) (s .boxed) (s .aimed .sound .through) (w .walk-spans .ensures)
+          ∙ looked-edges (arc .from) (arc .to) (s .boxed) (s .aimed .sound .through) (w .tally-arc .ensures)
           ∙ ap (λ arc. lookedFrom vs (arc .from) (arc .to) 0 (vertexCount vs)) (w .before .arc-between .ensures),
     )
 
@@ -74,7 +74,7 @@ count-edges-spec =
     tie.close
     (tie.spec
     arc-between-requires
-    walk-spans-requires
+    tally-arc-requires
     reach-of-requires
     looked-before-requires
     returns)

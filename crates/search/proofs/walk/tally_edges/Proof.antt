@@ -11,8 +11,8 @@ use Rattle.search.proofs.walk.tally_edges.Tie as tie
 arc-between-requires : tie.Need-arc-between-requires
 arc-between-requires c κs = (accept-passed (c .pre .0) .known, c .pre .1)
 
-walk-spans-requires : tie.Need-walk-spans-requires
-walk-spans-requires c κs =
+tally-arc-requires : tie.Need-tally-arc-requires
+tally-arc-requires c κs =
     let s = c .before in
     arc-searchable (s .args .grid) (s .args .known) (s .args .query) (s .args .by-boxes) (s .pre .0) (s .pre .1) (s .pre .2)
     (c .arc-between .ensures)
@@ -21,8 +21,8 @@ returns : tie.Need-returns
 unfolding arcOf
 returns c =
     let vs = c .before .before .args .vertices .now in
-    c .walk-spans .ensures
+    c .tally-arc .ensures
     ∙ ap (λ arc. tallyFrom vs (arc .from) (arc .to) 0 (vertexCount vs)) (c .before .arc-between .ensures)
 
 pub tally-edges-spec : {M : Type 1} → statement M
-tally-edges-spec = tie.close (tie.spec arc-between-requires walk-spans-requires returns)
+tally-edges-spec = tie.close (tie.spec arc-between-requires tally-arc-requires returns)

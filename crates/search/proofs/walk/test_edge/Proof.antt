@@ -14,7 +14,7 @@ use Rattle.polygon.specs.Vertices.{startOf, endOf}
 use Rattle.polygon.proofs.Laws.Edges.{start-within, end-within}
 use Rattle.search.specs.declared.walk.EdgeTest.the-variants.{Way}
 use Rattle.search.proofs.Laws.Arc.{reference}
-use Rattle.search.proofs.Laws.EdgeTest.{one-sided-test, way-by}
+use Rattle.search.proofs.Laws.EdgeTest.{one-sided-by, way-by}
 use Rattle.search.proofs.walk.test_edge.Statement.{statement}
 use Rattle.search.proofs.walk.test_edge.Tie as tie
 
@@ -41,8 +41,9 @@ returns c =
     let b = c .before in
     let v = s b .args in
     let e = sym (b .is-beside .ensures) ∙ c .if1 .taken in
-    sym (one-sided-test (v .vertices .now) (v .arc .from) (v .arc .to) (v .near .edge)
-    (reference (s b .pre .0 .aimed) .off-circle) (s b .pre .1 .below) (rw (side-a b, side-b b) at e))
+    sym (one-sided-by (v .vertices .now) (v .arc .from) (v .arc .to) (v .near .edge)
+    (reference (s b .pre .0) .off-circle) (s b .pre .1 .below) (rw (side-a b, side-b b) at e)
+    (v .stop))
 
 vertex-at-requires : tie.Need-vertex-at-requires
 vertex-at-requires c κs = omega (arith, s (c .before .before) .pre .1 .below)
@@ -60,11 +61,11 @@ module _ (c : tie.After-end-of) where
 
   A : Within (limitOf (entry .args .arc .plane .grid)) (c .before .vertex-at .result)
   A =
-      start-within (reference (entry .pre .0 .aimed) .accepted .gridded) (entry .pre .1 .below)
+      start-within (reference (entry .pre .0) .accepted .gridded) (entry .pre .1 .below)
       (record { start = λ h. c .before .vertex-at .ensures })
 
   B : Within (limitOf (entry .args .arc .plane .grid)) (c .end-of .result)
-  B = end-within (reference (entry .pre .0 .aimed) .accepted .gridded) (entry .pre .1 .below) (c .end-of .ensures)
+  B = end-within (reference (entry .pre .0) .accepted .gridded) (entry .pre .1 .below) (c .end-of .ensures)
 
 plane-through-requires : tie.Need-plane-through-requires
 plane-through-requires c κs = (A c, B c)
@@ -77,7 +78,7 @@ made c = let e = c .before in plane-made (entry e .args .arc .plane .grid) _ _ (
 
 side-of-requires : tie.Need-side-of-requires
 side-of-requires c κs =
-    (made c .sound, made-within (made c) (entry (c .before) .pre .0 .aimed .sound .query))
+    (made c .sound, made-within (made c) (entry (c .before) .pre .0 .sound .query))
 
 -- On which side of it the query lies.
 module _ (c : tie.After-side-of) where
@@ -93,22 +94,22 @@ module _ (c : tie.After-side-of) where
       result-sign w64 (c .side-of .result) (c .side-of .ok)
       (c .side-of .ensures ∙ ap signOf (made-turn (made (c .before)) (entry ends .args .arc .to)))
 
-is-on-border-requires : tie.Need-is-on-border-requires
-is-on-border-requires c κs =
+stops-at-requires : tie.Need-stops-at-requires
+stops-at-requires c κs =
     let e = ends c in
     let s = entry e in (
-      (s .pre .0, s .pre .1 .below, s .pre .2),
+      (s .pre .0, s .pre .1 .below),
       side-of-query c ∙ (λ j. signOf (orientationOf (e .before .vertex-at .ensures j) (e .end-of .ensures j)
           (s .args .arc .to))),
     )
 
 returns-2 : tie.Need-returns-2
-returns-2 c = rw (sym (c .before .is-on-border .ensures) ∙ c .if2 .taken)
+returns-2 c = rw (sym (c .before .stops-at .ensures) ∙ c .if2 .taken)
 
 crossing-from-requires : tie.Need-crossing-from-requires
 crossing-from-requires c κs =
     let p = c .before .before .before .before .before in
-    (made p .sound, made-within (made p) (entry (p .before) .pre .0 .aimed .sound .known))
+    (made p .sound, made-within (made p) (entry (p .before) .pre .0 .sound .known))
 
 returns-3 : tie.Need-returns-3
 returns-3 c =
@@ -123,7 +124,7 @@ returns-3 c =
     let way = way-by (v .arc .from) (v .arc .to) s1 s2 s3 (side q) (result-same w32 (r .result) (r .ok) (r .ensures))
     (ap signOf (made-turn (made (q .before)) _)) (side-a (test e)) (side-b (test e)) (side-of-query q)
     (e .before .vertex-at .ensures) (e .end-of .ensures) in
-    rw (sym (border .is-on-border .ensures) ∙ c .before .before .before .if2 .left) (ap Way way)
+    rw (sym (border .stops-at .ensures) ∙ c .before .before .before .if2 .left) (ap Way way)
 
 pub test-edge-spec : {M : Type 1} → statement M
 test-edge-spec =
@@ -135,7 +136,7 @@ test-edge-spec =
     end-of-requires
     plane-through-requires
     side-of-requires
-    is-on-border-requires
+    stops-at-requires
     returns-2
     crossing-from-requires
     returns-3)

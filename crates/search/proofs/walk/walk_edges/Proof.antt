@@ -1,6 +1,7 @@
 -- `walk_edges` meets its contract: what was tallied before the edge at hand, that edge, and those that a scan passes
 -- are tallied before the next one.
 use mathlib.Core.Path.{_≡_, sym, _∙_, subst}
+use mathlib.Core.Bool.{Bool}
 use mathlib.Core.List.{List}
 use mathlib.Core.Logic.{⊎-elim}
 use Prim.Native.Nat.{ℕ, _+_, _-_, _≤_, _<_}
@@ -14,48 +15,53 @@ use Rattle.integers.proofs.Compare.{result-sign}
 use Rattle.search.specs.declared.arc.Arc.{Arc}
 use Rattle.search.specs.declared.scan.Near.{Near}
 use Rattle.search.specs.Scan.{Sided, NearFrom}
+use Rattle.search.specs.Walk.{stopsAt}
 use Rattle.search.proofs.Laws.Arc.{reference}
 use Rattle.search.proofs.Laws.OneSided.{tallied-past}
 use Rattle.search.proofs.Laws.Near.{next-sided}
 use Rattle.search.proofs.Laws.Scanned.{sided-held}
-use Rattle.search.proofs.Laws.Tally.{Tallied, tallied-start, tallied-block, tallied-held, tallied-end}
-use Rattle.search.proofs.Laws.Tally.{none-before, tallied-few, test-held, test-way, sum-fits, sum-held}
+use Rattle.search.proofs.Laws.Tally.{TalliedOn, tallied-start, on-block, on-held, on-end}
+use Rattle.search.proofs.Laws.Tally.{tallied-few, one-held, one-way, sum-fits, sum-held}
 use Rattle.search.proofs.walk.walk_edges.Statement.{statement}
 use Rattle.search.proofs.walk.walk_edges.Tie as tie
 
 -- Before edge i: the side of its start, and what was tallied.
-record Walked (vs : List ℤ) (arc : Arc) (from to i : ℕ) (side : ℤ) (crossed : ℕ) (sum : ℤ) : Type 0 where
+record Walked (vs : List ℤ) (arc : Arc) (stop : Bool) (from to i : ℕ) (side : ℤ) (crossed : ℕ) (sum : ℤ) : Type 0 where
   after : from ≤ i
   before : i ≤ to
   start : Sided vs (arc .plane .normal) i side
-  tallied : Tallied vs (arc .from) (arc .to) from i crossed sum
+  tallied : TalliedOn (stopsAt vs (arc .to) stop) vs (arc .from) (arc .to) from i crossed sum
 
 abbrev Inv-loop : tie.InvT-loop
-Inv-loop vertices boxes arc closing from to i₀ side₀ crossed₀ sum₀ i side crossed sum =
-    Walked vertices arc from to i (toZ w64 side) crossed (toZ w32 sum)
+Inv-loop vertices arc closing from to stop i₀ side₀ crossed₀ sum₀ i side crossed sum =
+    Walked vertices arc stop from to i (toZ w64 side) crossed (toZ w32 sum)
 
 abbrev μ-loop : tie.MeasureT-loop
-μ-loop vertices boxes arc closing from to i₀ side₀ crossed₀ sum₀ i side crossed sum = to - i
+μ-loop vertices arc closing from to stop i₀ side₀ crossed₀ sum₀ i side crossed sum = to - i
 
 module _ (s : tie.Start Inv-loop μ-loop) where
   abbrev vs : List ℤ
   vs = s .args .vertices .now
 
   most : s .args .to ≤ 4096
-  most = omega (arith, s .pre .1 .1, reference (s .pre .0 .0 .aimed) .accepted .listed .most)
+  most = omega (arith, s .pre .1 .1, reference (s .pre .0 .0) .accepted .listed .most)
+
+  abbrev TalliedIn : ℕ → ℕ → ℤ → Type 0
+  TalliedIn i crossed sum =
+      TalliedOn (stopsAt vs (s .args .arc .to) (s .args .stop)) vs (s .args .arc .from) (s .args .arc .to) (s .args .from) i
+      crossed sum
 
   -- past the edges that a scan passes
   onward : {i crossed : ℕ} {sum : ℤ} {near : Near} → s .args .from ≤ i →
       NearFrom vs (s .args .arc .from) (s .args .arc .to) i (s .args .to) near →
-      Tallied vs (s .args .arc .from) (s .args .arc .to) (s .args .from) i crossed sum →
-      Tallied vs (s .args .arc .from) (s .args .arc .to) (s .args .from) (near .edge) crossed sum
+      TalliedIn i crossed sum → TalliedIn (near .edge) crossed sum
   onward h n t =
-      tallied-past vs (s .args .arc .from) (s .args .arc .to) (reference (s .pre .0 .0 .aimed) .off-circle) _ h
+      tallied-past vs (s .args .arc .from) (s .args .arc .to) (reference (s .pre .0 .0) .off-circle) (s .args .stop) _ h
       (n .after) (omega (arith, n .before, s .pre .1 .1)) (n .passed) t
 
 side-at-requires : tie.Need-side-at-requires Inv-loop μ-loop
 side-at-requires c κs =
-    let a = c .pre .0 .0 .aimed in (
+    let a = c .pre .0 .0 in (
       (reference a .accepted .gridded, a .sound .sound, omega (arith, c .pre .1 .0, c .pre .1 .1)),
       sided-held (c .fits .closing) (c .pre .0 .1),
     )
@@ -75,7 +81,7 @@ near-from-requires : tie.Need-near-from-requires Inv-loop μ-loop
 near-from-requires c κs =
     let s = c .before .before in
     let inv = c .loop .inv in (
-      (s .pre .0 .0 .aimed, sided-held (s .fits .closing) (s .pre .0 .1), inv .start),
+      (s .pre .0 .0, sided-held (s .fits .closing) (s .pre .0 .1), inv .start),
       (inv .before, s .pre .1 .1),
     )
 
@@ -93,17 +99,12 @@ module _ (c : tie.After-near-from Inv-loop μ-loop) where
   after : entry .args .from ≤ i
   after = omega (arith, at .loop .inv .after, c .near-from .ensures .after)
 
-  here : let s = entry .args in
-      Tallied (s .vertices .now) (s .arc .from) (s .arc .to) (s .from) i (at .loop .crossed) (toZ w32 (at .loop .sum))
+  here : TalliedIn entry i (at .loop .crossed) (toZ w32 (at .loop .sum))
   here = onward entry (at .loop .inv .after) (c .near-from .ensures) (at .loop .inv .tallied)
 
 test-edge-requires : tie.Need-test-edge-requires Inv-loop μ-loop
 test-edge-requires c κs =
-    let n = c .before .before in (
-      entry n .pre .0 .0,
-      n .near-from .ensures .ends (c .if1 .left),
-      none-before _ _ _ (after n) (entry n .pre .1 .2) (here n),
-    )
+    let n = c .before .before in (entry n .pre .0 .0, n .near-from .ensures .ends (c .if1 .left))
 
 enum-told : tie.Need-enum-told Inv-loop μ-loop
 enum-told c = search needs
@@ -130,14 +131,12 @@ module _ (c : tie.After-counted Inv-loop μ-loop) where
   fit : SFits w32 way
   fit = record { sfits = c .before .known-told .given .0 .1 }
 
-  next : let s = entry edge .args in
-      let l = at edge .loop in
-      Tallied (s .vertices .now) (s .arc .from) (s .arc .to) (s .from) (i edge + 1) (l .crossed + c .counted .result)
-      (toZ w32 (l .sum) +ℤ way)
+  next : let l = at edge .loop in
+      TalliedIn (entry edge) (i edge + 1) (l .crossed + c .counted .result) (toZ w32 (l .sum) +ℤ way)
   next =
       let s = entry edge .args in
-      tallied-block 1 (after edge) (here edge)
-      (test-way (s .vertices .now) (s .arc .from) (s .arc .to) (i edge)
+      on-block 1 (after edge) (here edge)
+      (one-way (stopsAt (s .vertices .now) (s .arc .to) (s .stop)) (s .vertices .now) (s .arc .from) (s .arc .to) (i edge)
       (sym (tested .test-edge .ensures) ∙ c .before .before .way .given .1)
       (rw (toZ-ofZ w32 way fit) at (c .counted .ensures)))
 
@@ -166,7 +165,7 @@ loop-again c =
     record {
       after = omega (arith, after e);
       before = omega (arith, more b);
-      start = sided-held fits (next-sided (s .pre .0 .0 .aimed .sound) (e .near-from .ensures .ends (more b)));
+      start = sided-held fits (next-sided (s .pre .0 .0 .sound) (e .near-from .ensures .ends (more b)));
       tallied = sum-held (at e .loop .sum) (way b) (fit b) (few b) (next b);
     }
 
@@ -182,13 +181,12 @@ returns c =
     c .tally-by .ensures ∙ ⊎-elim
     (λ w.
     let last : i e ≡ s .to = omega (arith, w .0 .taken, e .near-from .ensures .before) in
-    let all = subst (λ i. Tallied (s .vertices .now) (s .arc .from) (s .arc .to) (s .from) i (l .crossed)
-    (toZ w32 (l .sum))) last (here e) in
-    rw (w .1) (sym (tallied-end all)))
+    let all = subst (λ i. TalliedIn (entry e) i (l .crossed) (toZ w32 (l .sum))) last (here e) in
+    rw (w .1) (sym (on-end all)))
     (λ w.
-    let found = test-held (s .vertices .now) (s .arc .from) (s .arc .to) (i e)
+    let found = one-held (stopsAt (s .vertices .now) (s .arc .to) (s .stop)) (s .vertices .now) (s .arc .from) (s .arc .to) (i e)
     (sym (w .1 .ensures) ∙ w .3 .given .1) in
-    rw (w .4) (sym (tallied-held 1 (after e) (here e) (s .to) (omega (arith, w .0 .left)) found)))
+    rw (w .4) (sym (on-held 1 (after e) (here e) (s .to) (omega (arith, w .0 .left)) found)))
     (c .before .if1 .came)
 
 pub walk-edges-spec : {M : Type 1} → statement M

@@ -7,7 +7,7 @@ use mathlib.Core.Logic.{⊎-elim}
 use Prim.Native.Nat.{ℕ, _+_, _-_, _≤_, _<_}
 use native.Mathlib.Omega.{arith}
 use borrow.Author.Needs.{needs}
-use lib.IntN.{ℤ, pos, _+ℤ_}
+use lib.IntN.{ℤ, _+ℤ_}
 use mir.Syntax.{w32}
 use mir.Val.{SFits, toZ}
 use Rattle.polygon.specs.Vertices.{vertexCount}
@@ -15,23 +15,25 @@ use Rattle.search.specs.declared.spans.Span.{Span}
 use Rattle.search.specs.Boxes.{runCount}
 use Rattle.search.specs.Scan.{isOneSided}
 use Rattle.search.specs.Spans.{runStart}
+use Rattle.search.specs.Walk.{stopsAt}
 use Rattle.search.proofs.Laws.Arc.{reference}
 use Rattle.search.proofs.Laws.OneSided.{tallied-past}
 use Rattle.search.proofs.Laws.Runs.{runs-few, start-runs}
 use Rattle.search.proofs.Laws.Scanned.{sided-result}
 use Rattle.search.proofs.Laws.Spans.{spanned-within}
-use Rattle.search.proofs.Laws.Tally.{Tallied, tallied-start, tallied-block, tallied-held, tallied-end}
-use Rattle.search.proofs.Laws.Tally.{none-start, none-before, tally-all, tallied-few, sum-fits, sum-held}
+use Rattle.search.proofs.Laws.Tally.{TalliedOn, tallied-start, on-block, on-held, on-end}
+use Rattle.search.proofs.Laws.Tally.{tallied-few, sum-fits, sum-held}
 use Rattle.search.proofs.walk.walk_spans.Statement.{statement}
 use Rattle.search.proofs.walk.walk_spans.Tie as tie
 
 abbrev Inv-loop : tie.InvT-loop
-Inv-loop vertices boxes arc closing r₀ crossed₀ sum₀ r crossed sum =
-    (r ≤ runCount (vertexCount vertices) + 1)
-    × Tallied vertices (arc .from) (arc .to) 0 (runStart (vertexCount vertices) r) crossed (toZ w32 sum)
+Inv-loop vertices boxes arc run stop closing r₀ crossed₀ sum₀ r crossed sum =
+    (run ≤ r) × (r ≤ runCount (vertexCount vertices) + 1)
+    × TalliedOn (stopsAt vertices (arc .to) stop) vertices (arc .from) (arc .to) (runStart (vertexCount vertices) run)
+    (runStart (vertexCount vertices) r) crossed (toZ w32 sum)
 
 abbrev μ-loop : tie.MeasureT-loop
-μ-loop vertices boxes arc closing r₀ crossed₀ sum₀ r crossed sum = runCount (vertexCount vertices) - r
+μ-loop vertices boxes arc run stop closing r₀ crossed₀ sum₀ r crossed sum = runCount (vertexCount vertices) - r
 
 module _ (s : tie.Start Inv-loop μ-loop) where
   abbrev vs : List ℤ
@@ -40,40 +42,42 @@ module _ (s : tie.Start Inv-loop μ-loop) where
   abbrev n : ℕ
   n = vertexCount vs
 
+  abbrev begin : ℕ
+  begin = runStart n (s .args .run)
+
   abbrev TalliedTo : ℕ → ℕ → ℤ → Type 0
-  TalliedTo i crossed sum = Tallied vs (s .args .arc .from) (s .args .arc .to) 0 i crossed sum
+  TalliedTo i crossed sum =
+      TalliedOn (stopsAt vs (s .args .arc .to) (s .args .stop)) vs (s .args .arc .from) (s .args .arc .to) begin i crossed sum
 
   most : n ≤ 4096
-  most = reference (s .pre .aimed) .accepted .listed .most
+  most = reference (s .pre .0 .aimed) .accepted .listed .most
 
   -- past edges on one side
-  past : {i crossed : ℕ} {sum : ℤ} (to : ℕ) → i ≤ to → to ≤ n →
+  past : {i crossed : ℕ} {sum : ℤ} (to : ℕ) → begin ≤ i → i ≤ to → to ≤ n →
       ((j : ℕ) → i ≤ j → j < to → isOneSided vs (s .args .arc .from) (s .args .arc .to) j ≡ true) →
       TalliedTo i crossed sum → TalliedTo to crossed sum
-  past to h l all t =
-      tallied-past vs (s .args .arc .from) (s .args .arc .to) (reference (s .pre .aimed) .off-circle) to (omega arith) h
-      l all t
+  past to b h l all t =
+      tallied-past vs (s .args .arc .from) (s .args .arc .to) (reference (s .pre .0 .aimed) .off-circle) (s .args .stop) to
+      b h l all t
 
 vertex-at-requires : tie.Need-vertex-at-requires Inv-loop μ-loop
-vertex-at-requires c κs = omega (arith, reference (c .pre .aimed) .accepted .listed .least)
+vertex-at-requires c κs = omega (arith, reference (c .pre .0 .aimed) .accepted .listed .least)
 
 side-of-requires : tie.Need-side-of-requires Inv-loop μ-loop
 side-of-requires c κs =
     let s = c .before in
-    let a = reference (s .pre .aimed) .accepted in (
-      s .pre .aimed .sound .sound,
+    let a = reference (s .pre .0 .aimed) .accepted in (
+      s .pre .0 .aimed .sound .sound,
       rw (c .vertex-at .ensures) (a .gridded .each 0 (omega (arith, a .listed .least))),
     )
 
 loop-holds : tie.Need-loop-holds Inv-loop μ-loop
 loop-holds c =
-    let s = c .before .before in
-    let first : 0 ≡ runStart (n s) 0 = omega arith in
-    (omega arith, subst (λ i. TalliedTo s i 0 (pos 0)) first (tallied-start 0))
+    let s = c .before .before in (omega arith, omega (arith, s .pre .1), tallied-start (begin s))
 
 next-span-requires : tie.Need-next-span-requires Inv-loop μ-loop
 next-span-requires c κs =
-    let s = c .before .before .before in (s .pre, omega (arith, c .loop .inv .0, runs-few (n s) (most s)))
+    let s = c .before .before .before in (s .pre .0, omega (arith, c .loop .inv .1, runs-few (n s) (most s)))
 
 -- The next span, and what was tallied before it.
 module _ (c : tie.After-next-span Inv-loop μ-loop) where
@@ -86,10 +90,14 @@ module _ (c : tie.After-next-span Inv-loop μ-loop) where
   abbrev span : Span
   span = c .next-span .result
 
+  -- no run before the first
+  later : begin start ≤ runStart (n start) (at .loop .r)
+  later = omega (arith, at .loop .inv .0)
+
   here : TalliedTo start (span .from) (at .loop .crossed) (toZ w32 (at .loop .sum))
   here =
       let p = c .next-span .ensures in
-      past start (span .from) (p .after) (spanned-within p) (p .left-before) (at .loop .inv .1)
+      past start (span .from) later (p .after) (spanned-within p) (p .left-before) (at .loop .inv .2)
 
 walk-edges-requires : tie.Need-walk-edges-requires Inv-loop μ-loop
 walk-edges-requires c κs =
@@ -98,10 +106,10 @@ walk-edges-requires c κs =
     let d = at a .before in
     let side = d .side-of in (
       (
-        s .pre,
+        s .pre .0 .aimed,
         sided-result (side .result) (record { sfits = side .ok }) (side .ensures) (d .before .vertex-at .ensures),
       ),
-      (c .if1 .left, a .next-span .ensures .within, none-before _ _ _ (omega arith) (none-start _ _) (here a)),
+      (c .if1 .left, a .next-span .ensures .within),
     )
 
 enum-known-edge : tie.Need-enum-known-edge Inv-loop μ-loop
@@ -127,15 +135,19 @@ module _ (c : tie.After-known-told2 Inv-loop μ-loop) where
   fit : SFits w32 ways
   fit = record { sfits = c .known-told2 .given .1 .0 .1 }
 
+  -- the span is not before the first run
+  fore : begin (start a) ≤ span a .from
+  fore = omega (arith, later a, a .next-span .ensures .after)
+
   next : TalliedTo (start a) (runStart (n (start a)) (span a .next))
       (at a .loop .crossed + c .before .more .given .0 .0) (toZ w32 (at a .loop .sum) +ℤ ways)
   next =
       let p = a .next-span .ensures in
       let there : span a .from + (span a .to - span a .from) ≡ span a .to = omega (arith, some) in
-      past (start a) _ (p .behind) (omega arith) (p .left-after)
+      past (start a) _ (omega (arith, fore, some)) (p .behind) (omega arith) (p .left-after)
       (subst (λ i. TalliedTo (start a) i (at a .loop .crossed + c .before .more .given .0 .0) (toZ w32 (at a .loop .sum)
       +ℤ ways)) there
-      (tallied-block (span a .to - span a .from) (omega arith) (here a)
+      (on-block (span a .to - span a .from) fore (here a)
       (sym (walked .walk-edges .ensures) ∙ c .before .more .given .1)))
 
   few : runStart (n (start a)) (span a .next) ≤ 4096
@@ -156,6 +168,7 @@ loop-less c =
 
 loop-again : tie.Need-loop-again Inv-loop μ-loop
 loop-again c = (
+  omega (arith, at (a c) .loop .inv .0, a c .next-span .ensures .onward (some c) .0),
   a c .next-span .ensures .onward (some c) .1,
   sum-held (at (a c) .loop .sum) (ways c) (fit c) (few c) (next c),
 )
@@ -170,17 +183,15 @@ returns c =
     let s = start f in
     let l = at f .loop in
     let p = f .next-span .ensures in
-    let X = s .args .arc .from in
-    let P = s .args .arc .to in
     c .tally-by .ensures ∙ ⊎-elim
     (λ w.
     let all = subst (λ i. TalliedTo s i (l .crossed) (toZ w32 (l .sum))) (p .last (w .0 .taken)) (here f) in
-    rw (w .1) (sym (tally-all (vs s) X P (n s) (tallied-end all))))
+    rw (w .1) (sym (on-end all)))
     (λ w.
     let within : span f .from + (span f .to - span f .from) ≤ n s = omega (arith, w .0 .left, p .within) in
-    let held = tallied-held (span f .to - span f .from) (omega arith) (here f) (n s) within
+    let held = on-held (span f .to - span f .from) (omega (arith, later f, p .after)) (here f) (n s) within
     (sym (w .1 .ensures) ∙ w .3 .given .1) in
-    rw (w .5) (sym (tally-all (vs s) X P (n s) held)))
+    rw (w .5) (sym held))
     (c .before .if1 .came)
 
 pub walk-spans-spec : {M : Type 1} → statement M

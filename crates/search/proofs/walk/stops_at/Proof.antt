@@ -1,4 +1,4 @@
--- `is_on_border` meets its contract: border is worked out only where the edge holds the query.
+-- `stops_at` meets its contract.
 use mathlib.Core.Path.{_≡_, sym, ap, _∙_}
 use mathlib.Core.Bool.{Bool}
 use native.Mathlib.Omega.{arith}
@@ -12,8 +12,8 @@ use Rattle.polygon.specs.Verdict.{isHeldBy}
 use Rattle.polygon.proofs.Laws.Checks.{gridded-fine}
 use Rattle.polygon.proofs.Laws.Edges.{end-within}
 use Rattle.search.proofs.Laws.Arc.{reference}
-use Rattle.search.proofs.border.is_on_border.Statement.{statement}
-use Rattle.search.proofs.border.is_on_border.Tie as tie
+use Rattle.search.proofs.walk.stops_at.Statement.{statement}
+use Rattle.search.proofs.walk.stops_at.Tie as tie
 
 vertex-at-requires : tie.Need-vertex-at-requires
 vertex-at-requires c κs = omega (arith, c .pre .0 .1)
@@ -25,11 +25,11 @@ on-edge-by-requires : tie.Need-on-edge-by-requires
 on-edge-by-requires c κs =
     let s = c .before .before in
     let g = s .args .arc .plane .grid in
-    let grid = gridded-fine g (reference (s .pre .0 .0 .aimed) .accepted .gridded) in (
+    let grid = gridded-fine g (reference (s .pre .0 .0) .accepted .gridded) in (
       (
         rw (c .before .vertex-at .ensures) (grid .each (s .args .i) (s .pre .0 .1)),
         end-within grid (s .pre .0 .1) (c .end-of .ensures),
-        grid→fine g (s .pre .0 .0 .aimed .sound .query),
+        grid→fine g (s .pre .0 .0 .sound .query),
       ),
       ap signOf (toZ-ofZ w64 (s .args .side) (s .fits .side)) ∙ s .pre .1
           ∙ (λ j. signOf (orientationOf (sym (c .before .vertex-at .ensures) j) (sym (c .end-of .ensures) j)
@@ -44,24 +44,18 @@ held c e =
     sym (λ j. isOnEdge (c .before .before .vertex-at .ensures j) (c .before .end-of .ensures j) (s .arc .to))
     ∙ sym (c .on-edge-by .ensures) ∙ e
 
-is-border-requires : tie.Need-is-border-requires
-is-border-requires c κs =
-    let s = c .before .before .before .before in
-    (s .pre .0 .0, s .pre .0 .1, held (c .before) (c .if1 .taken), s .pre .0 .2)
-
 returns : tie.Need-returns
-returns c = rw (held (c .before .before) (c .before .if1 .taken)) (c .is-border .ensures)
+returns c = rw (held (c .before) (c .if1 .taken))
 
 returns-2 : tie.Need-returns-2
 returns-2 c = rw (held (c .before) (c .if1 .left))
 
-pub is-on-border-spec : {M : Type 1} → statement M
-is-on-border-spec =
+pub stops-at-spec : {M : Type 1} → statement M
+stops-at-spec =
     tie.close
     (tie.spec
     vertex-at-requires
     end-of-requires
     on-edge-by-requires
-    is-border-requires
     returns
     returns-2)

@@ -1,18 +1,19 @@
--- `next_toward` meets its contract: the vertices from i on, before the one at hand, are off c.
+-- `past_off` meets its contract: the vertices from i on, before the one at hand, are off c.
 use mathlib.Core.Path.{_≡_, sym, _∙_, ap}
-use mathlib.Core.Bool.{true}
+use mathlib.Core.Bool.{true, false}
 use native.Mathlib.Omega.{arith}
 use borrow.Author.Needs.{needs}
 use borrow.Author.Tests.{not-false}
 use Prim.Native.Nat.{_-_, _≤_}
+use Rattle.sphere.specs.Direction.{isSameDirection}
 use Rattle.polygon.specs.Vertices.{vertexAt}
 use Rattle.polygon.specs.Border.{isOff, OffBetween}
-use Rattle.polygon.proofs.Laws.Off.{off-start, off-step}
-use Rattle.polygon.proofs.border.next_toward.Statement.{statement}
-use Rattle.polygon.proofs.border.next_toward.Tie as tie
+use Rattle.polygon.proofs.Laws.Off.{off-not-same, off-start, off-step}
+use Rattle.polygon.proofs.border.past_off.Statement.{statement}
+use Rattle.polygon.proofs.border.past_off.Tie as tie
 
 abbrev Inv-loop : tie.InvT-loop
-Inv-loop vertices axis c i to at₀ at = OffBetween vertices axis c i at × (at ≤ to)
+Inv-loop vertices axis c i to at₀ at = OffBetween vertices c i at × (at ≤ to)
 
 abbrev μ-loop : tie.MeasureT-loop
 μ-loop vertices axis c i to at₀ at = to - at
@@ -34,11 +35,11 @@ returns c = c .before .before .before .before .loop .inv
 
 off : (c : tie.After-is-off Inv-loop μ-loop) → c .is-off .result ≡ true →
     let l = c .before .before .before in
-    isOff (l .before .args .axis) (l .before .args .c) (vertexAt (l .before .args .vertices .now) (l .loop .at)) ≡ true
+    isSameDirection (l .before .args .c) (vertexAt (l .before .args .vertices .now) (l .loop .at)) ≡ false
 off c e =
     let v = c .before in
     let s = v .before .before .before .args in
-    ap (isOff (s .axis) (s .c)) (sym (v .vertex-at .ensures)) ∙ sym (c .is-off .ensures) ∙ e
+    off-not-same (s .axis) (s .c) _ (ap (isOff (s .axis) (s .c)) (sym (v .vertex-at .ensures)) ∙ sym (c .is-off .ensures) ∙ e)
 
 add-at : tie.Need-add-at Inv-loop μ-loop
 add-at c = search needs
@@ -54,8 +55,8 @@ loop-again c =
 returns-2 : tie.Need-returns-2 Inv-loop μ-loop
 returns-2 c = c .before .loop .inv
 
-pub next-toward-spec : {M : Type 1} → statement M
-next-toward-spec =
+pub past-off-spec : {M : Type 1} → statement M
+past-off-spec =
     tie.close
     (tie.spec
     Inv-loop
