@@ -37,7 +37,12 @@ pub fn corridors(grid: Grid, sides: usize) -> Vec<Corridors> {
     let known = [3, -5, 7];
     let far = [limit - 11, 5 - limit, limit / 7];
     let spread = |i: i32| [limit / 2 - 127 * i, 61 * i - limit / 3, 31 * (i % 97) - limit / 5 + i];
-    let twice = (0..half / 2).chain((0..half / 2).rev()).map(spread);
+    let back = || (0..half / 2).chain((0..half / 2).rev());
+    let again = || (0..half / 2).chain(0..half / 2);
+    let in_plane = |i: i32| [0, limit / 2, i - half / 2];
+    let on_circle = |i: i32| mixed(s, q, i + 1, r);
+    let (end, pole) = (mixed(s, q, -4, r), [1, 0, 0]);
+    let cycle = &out_and_back(s, q, r, sides)[..sides / 2];
     let case = |name, known, vertices: Vec<Point>, query| {
         assert_eq!(vertices.len(), sides);
         Corridors { name, sheet: Sheet::new(known, &vertices).on(grid), query }
@@ -58,14 +63,13 @@ pub fn corridors(grid: Grid, sides: usize) -> Vec<Corridors> {
             out_and_back(limit / 4_096, [0, 1, 0], [1, 0, 1], sides),
             [0, 1, 0],
         ),
+        case("a circle, walked twice", known, cycle.repeat(2), q),
         case("a star", far, star(q, (0..half).map(spread)), q),
-        case("a star walked twice", far, star(q, twice), q),
-        case(
-            "a star in a plane",
-            known,
-            star([1, 0, 0], (0..half).map(|i| [0, limit / 2, i - half / 2])),
-            [1, 0, 0],
-        ),
-        case("a fan", known, star(mixed(s, q, -4, r), (1..=half).map(|k| mixed(s, q, k, r))), q),
+        case("a star, and back", far, star(q, back().map(spread)), q),
+        case("a star, walked twice", far, star(q, again().map(spread)), q),
+        case("a star in a plane", known, star(pole, (0..half).map(in_plane)), pole),
+        case("a star in a plane, walked twice", known, star(pole, again().map(in_plane)), pole),
+        case("a fan", known, star(end, (0..half).map(on_circle)), q),
+        case("a fan, walked twice", known, star(end, again().map(on_circle)), q),
     ]
 }
