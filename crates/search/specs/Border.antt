@@ -1,5 +1,5 @@
 -- Which edge that holds the query is border (document 02, P3): for the code alone. Defined, in order: Foremost,
--- ClassMarked (one class); heldOr, NextHeld, Settled (the edges that hold the query, one by one). A list of marks has a
+-- ClassMarked (one class); heldOr, NextHeld, NextOther, Settled (the edges that hold the query, one by one). A list of marks has a
 -- number for each edge: 1 if the edge is marked.
 use mathlib.Core.Path.{_≡_}
 use mathlib.Core.Bool.{true, false, cond}
@@ -34,6 +34,14 @@ pub record NextHeld (vs : List ℤ) (P : Point) (from at : ℕ) : Type 0 where
   pub within : at ≤ vertexCount vs
   pub passed : (j : ℕ) → from ≤ j → j < at → isHeldBy vs P j ≡ false
   pub held : at < vertexCount vs → isHeldBy vs P at ≡ true
+
+-- The first after edge i that holds P and is not of its class, or the end of all.
+pub record NextOther (vs : List ℤ) (P : Point) (i at : ℕ) : Type 0 where
+  pub after : i < at
+  pub within : at ≤ vertexCount vs
+  pub passed : (j : ℕ) → i < j → j < at → isHeldBy vs P j ≡ true → isCoincident vs (startOf vs i) (endOf vs i) j ≡ true
+  pub held : at < vertexCount vs → isHeldBy vs P at ≡ true
+  pub other : at < vertexCount vs → isCoincident vs (startOf vs i) (endOf vs i) at ≡ false
 
 -- Before edge i: each edge that holds P is marked, none that is marked is border, and coincident ones are marked alike.
 pub record Settled (vs : List ℤ) (P : Point) (i : ℕ) (marks : List ℕ) : Type 0 where

@@ -1,31 +1,45 @@
-// Which edge that holds the query is border: document 02's P3. Here, in order: mark_class, is_border (one edge);
-// held_or, next_held, is_new_border, first_border (all of them); tally_marked, tally_held, tally_arc (what all edges
-// say). Edges that join the same two directions, a class, hold the same points and are border together: each class is
-// counted once, from its first edge on.
+// Which edge that holds the query is border: document 02's P3. Here, in order: stops_at, mark_class, is_border (one
+// edge); held_or, next_held, next_other, is_new_border, first_border (those that hold it); tally_marked, tally_past,
+// tally_held, tally_arc (what all edges say). Edges that join the same two directions, a class, hold the same points and
+// are border together: each class is counted once, from its first edge on.
 ghost use mathlib.Core.Path.{_≡_};
 ghost use mathlib.Core.Bool.{true, false};
-ghost use Prim.Native.Nat.{_+_, _-_, _/_, _≤_, _<_};
-ghost use lib.ListN.{length};
+ghost use Prim.Native.Nat.{_+_, _-_, _/_, _<_};
+ghost use Rattle.integers.specs.Sign.{signOf};
+ghost use Rattle.sphere.specs.Orientation.{orientationOf};
 ghost use Rattle.answer.specs.declared.Found.the-variants.{At};
 ghost use Rattle.answer.specs.Search.{firstFrom, countFrom};
 ghost use Rattle.polygon.specs.Vertices.{vertexCount, startOf, endOf};
 ghost use Rattle.polygon.specs.Border.{isCoincident, isBorder, Marked};
 ghost use Rattle.polygon.specs.Verdict.{isHeldBy, boundaryOf};
-ghost use Rattle.search.specs.Arc.{Searchable};
+ghost use Rattle.search.specs.Arc.{AcceptedArc, Searchable};
 ghost use Rattle.search.specs.Spans.{runStart};
 ghost use Rattle.search.specs.Walk.{tallyFrom, stopsAt};
-ghost use Rattle.search.specs.Border.{Foremost, ClassMarked, heldOr, NextHeld, Settled};
+ghost use Rattle.search.specs.Border.{Foremost, ClassMarked, heldOr, NextHeld};
+ghost use Rattle.search.specs.Border.{NextOther, Settled};
 use crate::arc::Arc;
-use crate::boxes;
 use crate::spans::next_span;
 use crate::walk::Tally;
-use crate::walk::walk_edges;
 use crate::walk::walk_spans;
 use answer::Found;
+use polygon::border::coincident;
 use polygon::border::mark_edges;
 use polygon::vertices::end_of;
 use polygon::vertices::vertex_at;
-use sphere::plane::side_of;
+use sphere::edge::on_edge_by;
+
+// Whether the walk ends at edge i, which holds the query; by side, which has the sign of the orientation of its ends and
+// the query.
+pub(crate) fn stops_at(vertices: &[i32], arc: Arc, stop: bool, i: usize, side: i64) -> bool
+    requires { ⌜ AcceptedArc (now vertices) arc × (i < vertexCount (now vertices)) ⌝ }
+    requires { ⌜ signOf side ≡ signOf (orientationOf (startOf (now vertices) i) (endOf (now vertices) i) (arc .to)) ⌝ }
+    ensures { λ r. ⌜ r ≡ stopsAt (now (vertices .entry)) (arc .to) stop i ⌝ }
+{
+    if on_edge_by(vertex_at(vertices, i), end_of(vertices, i), arc.to, side) {
+        return stop;
+    }
+    false
+}
 
 // How many edges from the run of edge i on join the same two directions. They are marked, as far as there are marks. A
 // run that is skipped has none: one that is coincident with an edge that holds the query is not strictly on one side.
@@ -73,20 +87,37 @@ fn held_or(tally: Tally, end: usize) -> usize
     }
 }
 
-// The first edge from `from` on that holds the query, or the end of all: one of its run, or of the runs after that.
+// The first edge from `from` on that holds the query, or the end of all.
 fn next_held(vertices: &[i32], boxes: &[i32], arc: Arc, from: usize) -> usize
     requires { ⌜ Searchable (now vertices) (now boxes) arc × (from < vertexCount (now vertices)) ⌝ }
     ensures { λ r. ⌜ NextHeld (now (vertices .entry)) (arc .to) from r ⌝ }
 {
+    held_or(
+        walk_spans(vertices, boxes, arc, from, true),
+        vertices.len() / 3,
+    )
+}
+
+// The next one after edge `first` that is not of its class.
+fn next_other(vertices: &[i32], boxes: &[i32], arc: Arc, first: usize) -> usize
+    requires { ⌜ Searchable (now vertices) (now boxes) arc × (first < vertexCount (now vertices)) ⌝ }
+    ensures { λ r. ⌜ NextOther (now (vertices .entry)) (arc .to) first r ⌝ }
+{
     let n = vertices.len() / 3;
-    let run = from / 32;
-    let to = boxes::run_end(n, run);
-    let closing = side_of(arc.plane, vertex_at(vertices, 0));
-    let edge = held_or(walk_edges(vertices, arc, closing, from, to, true), to);
-    if edge < to {
-        return edge;
+    let c = vertex_at(vertices, first);
+    let d = end_of(vertices, first);
+    let mut i = first + 1;
+    while i < n {
+        let edge = next_held(vertices, boxes, arc, i);
+        if edge >= n {
+            return n;
+        }
+        if coincident(vertices, c, d, edge) != 1 {
+            return edge;
+        }
+        i = edge + 1;
     }
-    held_or(walk_spans(vertices, boxes, arc, run + 1, true), n)
+    n
 }
 
 // Edge i, which holds the query, is border. One that is marked is not: its class was counted.
@@ -135,8 +166,27 @@ fn tally_marked(vertices: &[i32], boxes: &[i32], arc: Arc) -> Tally
     }
 }
 
-// The same, where `first` is the first edge that holds the query. Most often it is border, and no mark is needed.
-fn tally_held(vertices: &[i32], boxes: &[i32], arc: Arc, first: usize) -> Tally
+// The same, where the first edge that holds the query is no border. Most often those that hold it are of one class, or
+// of two of which the other is border, and no mark is needed.
+fn tally_past(vertices: &[i32], boxes: &[i32], arc: Arc, first: usize) -> Tally
+    requires { ⌜ Searchable (now vertices) (now boxes) arc × (isBorder (now vertices) first ≡ false) ⌝ }
+    requires { ⌜ firstFrom (stopsAt (now vertices) (arc .to) true) 0 (vertexCount (now vertices)) ≡ At first ⌝ }
+    ensures { λ r. ⌜ r ≡ tallyFrom (now (vertices .entry)) (arc .from) (arc .to) 0
+        (vertexCount (now (vertices .entry))) ⌝ }
+{
+    let other = next_other(vertices, boxes, arc, first);
+    if other >= vertices.len() / 3 {
+        return walk_spans(vertices, boxes, arc, 0, false);
+    }
+    let mut unmarked = [0u8; 1];
+    if is_border(vertices, boxes, arc, other, &mut unmarked) {
+        return Tally::Held(other);
+    }
+    tally_marked(vertices, boxes, arc)
+}
+
+// The same, where `first` is the first edge that holds the query. Most often it is border.
+pub(crate) fn tally_held(vertices: &[i32], boxes: &[i32], arc: Arc, first: usize) -> Tally
     requires { ⌜ Searchable (now vertices) (now boxes) arc ⌝ }
     requires { ⌜ firstFrom (stopsAt (now vertices) (arc .to) true) 0 (vertexCount (now vertices)) ≡ At first ⌝ }
     ensures { λ r. ⌜ r ≡ tallyFrom (now (vertices .entry)) (arc .from) (arc .to) 0
@@ -146,7 +196,7 @@ fn tally_held(vertices: &[i32], boxes: &[i32], arc: Arc, first: usize) -> Tally
     if is_border(vertices, boxes, arc, first, &mut unmarked) {
         return Tally::Held(first);
     }
-    tally_marked(vertices, boxes, arc)
+    tally_past(vertices, boxes, arc, first)
 }
 
 // What all edges say of a query, by the arc to it.

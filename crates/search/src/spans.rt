@@ -1,11 +1,11 @@
-// Runs that are skipped and runs that are not (document 02, P2). Here, in order: next_run, run_start, Span, next_span.
+// Runs that are skipped and runs that are not (document 02, P2). Here, in order: next_run, later, run_start, Span, next_span.
 ghost use mathlib.Core.Path.{_≡_};
 ghost use Prim.Native.Nat.{_-_, _≤_};
 ghost use Rattle.sphere.specs.Point.{limitOf};
 ghost use Rattle.sphere.specs.Plane.{Sound};
 ghost use Rattle.search.specs.Arc.{Searchable};
 ghost use Rattle.search.specs.Scan.{stopFrom};
-ghost use Rattle.search.specs.Spans.{runStart, Cornered, isRun, Spanned};
+ghost use Rattle.search.specs.Spans.{runStart, laterOf, Cornered, isRun, Spanned};
 use crate::arc::Arc;
 use crate::boxes;
 use sphere::plane::Plane;
@@ -23,6 +23,16 @@ fn next_run(boxes: &[i32], plane: Plane, r: usize, runs: usize, skipped: bool) -
         i += 1;
     }
     i
+}
+
+// The later of two edges.
+pub(crate) fn later(a: usize, b: usize) -> usize
+    ensures { λ r. ⌜ r ≡ laterOf a b ⌝ }
+{
+    if a < b {
+        return b;
+    }
+    a
 }
 
 // The first edge of run r, or the end of n edges.

@@ -1,37 +1,37 @@
 // The walk over a polygon's edges: document 01's 'When the arc crosses a side', and document 02's P2. Here, in order:
-// EdgeTest, stops_at, test_edge (one edge); counted, Tally, tally_by, walk_edges (some edges); walk_spans, tally_edges,
+// EdgeTest, test_edge (one edge); counted, Tally, tally_by, walk_edges, walk_spans (some edges); tally_edges,
 // Searched, uncounted, count_edges, Mode, search_edges (all). Which edges that hold the query are border: module border.
 ghost use mathlib.Core.Path.{_≡_};
 ghost use mathlib.Core.Bool.{cond};
 ghost use Prim.Native.Nat.{_-_, _≤_, _<_};
 ghost use Rattle.integers.specs.Sign.{signOf, isZero};
 ghost use Rattle.sphere.specs.Point.{limitOf, Within};
-ghost use Rattle.sphere.specs.Orientation.{orientationOf};
 ghost use Rattle.answer.specs.declared.Check.the-variants.{Passed};
 ghost use Rattle.polygon.specs.Checks.{acceptCheck};
-ghost use Rattle.polygon.specs.Vertices.{vertexCount, startOf, endOf};
+ghost use Rattle.polygon.specs.Vertices.{vertexCount};
 ghost use Rattle.polygon.specs.Verdict.{wayOf};
 ghost use Rattle.search.specs.Arc.{AcceptedArc, Searchable};
-ghost use Rattle.search.specs.Boxes.{runCount, Boxed};
+ghost use Rattle.search.specs.Boxes.{Boxed};
 ghost use Rattle.search.specs.Scan.{Sided, EndSides};
-ghost use Rattle.search.specs.Spans.{runStart};
 ghost use Rattle.search.specs.Walk.{testBy, tallyBy, stopsAt, tallyOn, tallyFrom, lookedFrom};
 ghost use Rattle.search.specs.Walk.{lookedIn};
 use crate::arc::Arc;
 use crate::arc::arc_between;
+use crate::border::stops_at;
 use crate::border::tally_arc;
+use crate::border::tally_held;
 use crate::looked::looked_before;
 use crate::looked::reach_of;
 use crate::scan::Near;
 use crate::scan::near_from;
 use crate::scan::side_at;
+use crate::spans::later;
 use crate::spans::next_span;
 use answer::Found;
 use polygon::vertices::end_of;
 use polygon::vertices::vertex_at;
 use sphere::crossing::crossing_from;
 use sphere::crossing::is_beside;
-use sphere::edge::on_edge_by;
 use sphere::plane::plane_through;
 use sphere::plane::side_of;
 use sphere::point::Grid;
@@ -42,19 +42,6 @@ use sphere::point::Point;
 pub enum EdgeTest {
     OnBorder,
     Way(i32),
-}
-
-// Whether the walk ends at edge i, which holds the query; by side, which has the sign of the orientation of its ends and
-// the query.
-fn stops_at(vertices: &[i32], arc: Arc, stop: bool, i: usize, side: i64) -> bool
-    requires { ⌜ AcceptedArc (now vertices) arc × (i < vertexCount (now vertices)) ⌝ }
-    requires { ⌜ signOf side ≡ signOf (orientationOf (startOf (now vertices) i) (endOf (now vertices) i) (arc .to)) ⌝ }
-    ensures { λ r. ⌜ r ≡ stopsAt (now (vertices .entry)) (arc .to) stop i ⌝ }
-{
-    if on_edge_by(vertex_at(vertices, i), end_of(vertices, i), arc.to, side) {
-        return stop;
-    }
-    false
 }
 
 // Its own two orientations are worked out only where its ends are not strictly on one side.
@@ -105,14 +92,7 @@ pub fn tally_by(found: Found, crossed: u32, sum: i32) -> Tally
 
 // One pass over the edges before `to`: the first that holds the query ends it, or none where `stop` says so, and the
 // crossings are counted and summed on the way. `closing` is the side of vertex 0.
-pub(crate) fn walk_edges(
-    vertices: &[i32],
-    arc: Arc,
-    closing: i64,
-    from: usize,
-    to: usize,
-    stop: bool,
-) -> Tally
+fn walk_edges(vertices: &[i32], arc: Arc, closing: i64, from: usize, to: usize, stop: bool) -> Tally
     requires { ⌜ AcceptedArc (now vertices) arc × Sided (now vertices) (arc .plane .normal) 0 closing ⌝ }
     requires { ⌜ (from < to) × (to ≤ vertexCount (now vertices)) ⌝ }
     ensures { λ r. ⌜ r ≡ tallyOn (stopsAt (now (vertices .entry)) (arc .to) stop) (now (vertices .entry)) (arc .from)
@@ -139,15 +119,20 @@ pub(crate) fn walk_edges(
     tally_by(found, crossed, sum)
 }
 
-// All edges from a run on but those of runs that are skipped, in order, as far as walk_edges goes.
-pub(crate) fn walk_spans(vertices: &[i32], boxes: &[i32], arc: Arc, run: usize, stop: bool) -> Tally
-    requires { ⌜ Searchable (now vertices) (now boxes) arc × (run ≤ runCount (vertexCount (now vertices))) ⌝ }
+// All edges from `from` on but those of runs that are skipped, in order, as far as walk_edges goes.
+pub(crate) fn walk_spans(
+    vertices: &[i32],
+    boxes: &[i32],
+    arc: Arc,
+    from: usize,
+    stop: bool,
+) -> Tally
+    requires { ⌜ Searchable (now vertices) (now boxes) arc × (from < vertexCount (now vertices)) ⌝ }
     ensures { λ r. ⌜ r ≡ tallyOn (stopsAt (now (vertices .entry)) (arc .to) stop) (now (vertices .entry)) (arc .from)
-        (arc .to) (runStart (vertexCount (now (vertices .entry))) run)
-        (vertexCount (now (vertices .entry)) - runStart (vertexCount (now (vertices .entry))) run) ⌝ }
+        (arc .to) from (vertexCount (now (vertices .entry)) - from) ⌝ }
 {
     let closing = side_of(arc.plane, vertex_at(vertices, 0));
-    let mut r = run;
+    let mut r = from / 32;
     let mut crossed: u32 = 0;
     let mut sum: i32 = 0;
     let found = loop {
@@ -155,7 +140,14 @@ pub(crate) fn walk_spans(vertices: &[i32], boxes: &[i32], arc: Arc, run: usize, 
         if span.from >= span.to {
             break Found::Nothing;
         }
-        match walk_edges(vertices, arc, closing, span.from, span.to, stop) {
+        match walk_edges(
+            vertices,
+            arc,
+            closing,
+            later(from, span.from),
+            span.to,
+            stop,
+        ) {
             Tally::Held(edge) => break Found::At(edge),
             Tally::Crossed(more, ways) => {
                 crossed += more;
@@ -167,7 +159,8 @@ pub(crate) fn walk_spans(vertices: &[i32], boxes: &[i32], arc: Arc, run: usize, 
     tally_by(found, crossed, sum)
 }
 
-// What all edges say of a query: by the boxes beside the polygon, or by all of it.
+// What all edges say of a query: by the boxes beside the polygon, or by all of it. As tally_arc, which is for one caller:
+// with two the compiler leaves the rare tally_held out of both.
 fn tally_edges(
     grid: Grid,
     vertices: &[i32],
@@ -180,7 +173,11 @@ fn tally_edges(
         × Boxed (now vertices) (now boxes) ⌝ }
     ensures { λ r. ⌜ r ≡ tallyFrom (now (vertices .entry)) known query 0 (vertexCount (now (vertices .entry))) ⌝ }
 {
-    tally_arc(vertices, boxes, arc_between(grid, known, query, by_boxes))
+    let arc = arc_between(grid, known, query, by_boxes);
+    match walk_spans(vertices, boxes, arc, 0, true) {
+        Tally::Held(edge) => tally_held(vertices, boxes, arc, edge),
+        Tally::Crossed(crossed, sum) => Tally::Crossed(crossed, sum),
+    }
 }
 
 // The same, and how many edges are looked at for it (document 02, P2).

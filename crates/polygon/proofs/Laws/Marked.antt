@@ -1,6 +1,6 @@
 -- Marks of edges, as a loop goes. Proved, in order: marked-none, marked-one, marked-append (some edges, and those after
 -- them).
-use mathlib.Core.Path.{_≡_, refl, sym, _∙_, ap, subst}
+use mathlib.Core.Path.{_≡_, refl, _∙_, ap}
 use mathlib.Core.Bool.{Bool, true, false, cond}
 use mathlib.Core.List.{List}
 use Prim.Native.Nat.{ℕ, _+_, _≤_, _<_}

@@ -1,5 +1,5 @@
--- The edges that hold P, one by one, and which of them are border (document 02, P3). Proved, in order: held-late,
--- class-all, class-marked (a class, from its first edge on); settled-start, settled-past, settled-foremost,
+-- The edges that hold P, one by one, and which of them are border (document 02, P3). Proved, in order:
+-- class-border, class-marked (a class, from its first edge on); settled-start, settled-past, settled-foremost,
 -- settled-marked, settled-class (as a loop goes); settled-none, first-at (what it finds).
 use mathlib.Core.Path.{_≡_, refl, sym, _∙_, ap, ap₂, subst}
 use mathlib.Core.Bool.{Bool, true, false, _&&_, cond, true≢false}

@@ -78,6 +78,7 @@ module _ {vs boxes : List ℤ} {arc : Arc} (s : Searchable vs boxes arc) {r firs
       omega (arith, at-first .after, at-end .after),
       omega (arith, at-end .before, at-end .after, start-runs n first (omega (arith, h))),
     );
+    whole = λ h. omega (arith, at-first .after, at-end .after);
     behind = omega arith;
     left-before = λ j h l. skipped-between vs (arc .from) (arc .to) r first before j h l;
     left-after = λ j h l. skipped-between vs (arc .from) (arc .to) end (end + 1) after j h l;
@@ -93,6 +94,7 @@ whole-spanned vs X P r =
       within = omega arith;
       last = λ h. omega (arith, h);
       onward = λ h. (omega (arith, start-runs n r h), omega arith);
+      whole = λ h. omega arith;
       behind = omega (arith, start-last n (runCount n + 1) (omega arith));
       left-before = λ j h l. absurd (omega (arith, h, l));
       left-after = λ j h l. absurd (omega (arith, h, l));

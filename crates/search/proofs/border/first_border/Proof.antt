@@ -1,15 +1,14 @@
 -- `first_border` meets its contract: before edge i none that holds the query is border.
 use mathlib.Core.Path.{_≡_, sym, _∙_, ap, subst}
-use mathlib.Core.Bool.{true, _&&_}
+use mathlib.Core.Bool.{_&&_}
 use mathlib.Core.List.{List}
 use native.Mathlib.Omega.{arith}
-use borrow.Author.Needs.{needs}
 use Prim.Native.Nat.{ℕ, _-_, _≤_, _<_}
 use lib.IntN.{ℤ}
 use lib.ListN.{length, length-replicate, getD-replicate}
 use Rattle.polygon.specs.Vertices.{vertexCount}
 use Rattle.polygon.specs.Border.{isBorder}
-use Rattle.polygon.specs.Verdict.{isHeldBy, isOnBorder, boundaryOf}
+use Rattle.polygon.specs.Verdict.{isOnBorder, boundaryOf}
 use Rattle.search.specs.Border.{Settled}
 use Rattle.search.specs.Walk.{NoneBefore}
 use Rattle.search.proofs.Laws.Arc.{reference}

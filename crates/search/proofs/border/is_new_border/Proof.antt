@@ -1,8 +1,6 @@
 -- `is_new_border` meets its contract: an edge that is not marked is the first of its class.
-use mathlib.Core.Path.{_≡_, sym, _∙_}
-use native.Mathlib.Omega.{arith}
+use mathlib.Core.Path.{sym, _∙_}
 use borrow.Author.Needs.{needs}
-use Rattle.search.specs.Border.{Foremost}
 use Rattle.search.proofs.Laws.Arc.{reference}
 use Rattle.search.proofs.Laws.Settled.{settled-marked, settled-foremost, settled-class}
 use Rattle.search.proofs.border.is_new_border.Statement.{statement}

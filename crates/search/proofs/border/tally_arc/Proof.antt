@@ -7,12 +7,13 @@ use mir.Syntax.{w32}
 use mir.ValLaws.{toZ-ofZ}
 use Rattle.polygon.specs.Vertices.{vertexCount}
 use Rattle.search.specs.Walk.{stopsAt, tallyOn}
+use Rattle.search.proofs.Laws.Arc.{reference}
 use Rattle.search.proofs.Laws.Held.{all-edges, tally-none, first-held}
 use Rattle.search.proofs.border.tally_arc.Statement.{statement}
 use Rattle.search.proofs.border.tally_arc.Tie as tie
 
 walk-spans-requires : tie.Need-walk-spans-requires
-walk-spans-requires c κs = (c .pre, omega arith)
+walk-spans-requires c κs = (c .pre, omega (arith, reference (c .pre .aimed) .accepted .listed .least))
 
 -- What the walk says of all edges.
 walked : (c : tie.After-walk-spans) →

@@ -28,8 +28,10 @@ returns c =
     sym (first-border (s .args .vertices .now) (s .args .arc .from) (s .args .arc .to) (s .pre .1)
     (sym (b .is-border .ensures .0) ∙ c .if1 .taken))
 
-tally-marked-requires : tie.Need-tally-marked-requires
-tally-marked-requires c κs = search needs
+tally-past-requires : tie.Need-tally-past-requires
+tally-past-requires c κs =
+    let b = c .before .before in
+    let s = b .before .before in ((s .pre .0, sym (b .is-border .ensures .0) ∙ c .if1 .left), s .pre .1)
 
 returns-2 : tie.Need-returns-2
 returns-2 c = search needs
@@ -37,4 +39,4 @@ returns-2 c = search needs
 pub tally-held-spec : {M : Type 1} → statement M
 tally-held-spec =
     tie.close
-    (tie.spec slice-aggregate-is-border is-border-requires returns tally-marked-requires returns-2)
+    (tie.spec slice-aggregate-is-border is-border-requires returns tally-past-requires returns-2)

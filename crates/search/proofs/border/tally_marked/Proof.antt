@@ -5,6 +5,7 @@ use native.Mathlib.Omega.{arith}
 use borrow.Author.Needs.{needs}
 use Rattle.polygon.specs.Vertices.{vertexCount}
 use Rattle.search.specs.Walk.{stopsAt}
+use Rattle.search.proofs.Laws.Arc.{reference}
 use Rattle.search.proofs.Laws.Held.{all-edges, tally-at, tally-passed}
 use Rattle.search.proofs.border.tally_marked.Statement.{statement}
 use Rattle.search.proofs.border.tally_marked.Tie as tie
@@ -16,7 +17,8 @@ enum-told : tie.Need-enum-told
 enum-told c = search needs
 
 walk-spans-requires : tie.Need-walk-spans-requires
-walk-spans-requires c κs = (c .before .before .before .pre, omega arith)
+walk-spans-requires c κs =
+    let s = c .before .before .before in (s .pre, omega (arith, reference (s .pre .aimed) .accepted .listed .least))
 
 enum-known-edge : tie.Need-enum-known-edge
 enum-known-edge c = search needs

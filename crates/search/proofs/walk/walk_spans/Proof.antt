@@ -4,21 +4,22 @@ use mathlib.Core.Path.{_≡_, sym, _∙_, subst}
 use mathlib.Core.Bool.{true}
 use mathlib.Core.List.{List}
 use mathlib.Core.Logic.{⊎-elim}
-use Prim.Native.Nat.{ℕ, _+_, _-_, _≤_, _<_}
+use Prim.Native.Nat.{ℕ, _+_, _-_, _/_, _≤_, _<_}
 use native.Mathlib.Omega.{arith}
 use borrow.Author.Needs.{needs}
-use lib.IntN.{ℤ, _+ℤ_}
+use lib.IntN.{ℤ, pos, _+ℤ_}
 use mir.Syntax.{w32}
 use mir.Val.{SFits, toZ}
 use Rattle.polygon.specs.Vertices.{vertexCount}
 use Rattle.search.specs.declared.spans.Span.{Span}
+use Rattle.search.specs.declared.walk.Tally.{Tally}
 use Rattle.search.specs.Boxes.{runCount}
 use Rattle.search.specs.Scan.{isOneSided}
-use Rattle.search.specs.Spans.{runStart}
-use Rattle.search.specs.Walk.{stopsAt}
+use Rattle.search.specs.Spans.{runStart, laterOf}
+use Rattle.search.specs.Walk.{stopsAt, tallyOn}
 use Rattle.search.proofs.Laws.Arc.{reference}
 use Rattle.search.proofs.Laws.OneSided.{tallied-past}
-use Rattle.search.proofs.Laws.Runs.{runs-few, start-runs}
+use Rattle.search.proofs.Laws.Runs.{run-of, runs-few, start-runs}
 use Rattle.search.proofs.Laws.Scanned.{sided-result}
 use Rattle.search.proofs.Laws.Spans.{spanned-within}
 use Rattle.search.proofs.Laws.Tally.{TalliedOn, tallied-start, on-block, on-held, on-end}
@@ -27,13 +28,13 @@ use Rattle.search.proofs.walk.walk_spans.Statement.{statement}
 use Rattle.search.proofs.walk.walk_spans.Tie as tie
 
 abbrev Inv-loop : tie.InvT-loop
-Inv-loop vertices boxes arc run stop closing r₀ crossed₀ sum₀ r crossed sum =
-    (run ≤ r) × (r ≤ runCount (vertexCount vertices) + 1)
-    × TalliedOn (stopsAt vertices (arc .to) stop) vertices (arc .from) (arc .to) (runStart (vertexCount vertices) run)
-    (runStart (vertexCount vertices) r) crossed (toZ w32 sum)
+Inv-loop vertices boxes arc from stop closing r₀ crossed₀ sum₀ r crossed sum =
+    (from / 32 ≤ r) × (r ≤ runCount (vertexCount vertices) + 1)
+    × TalliedOn (stopsAt vertices (arc .to) stop) vertices (arc .from) (arc .to) from
+    (laterOf from (runStart (vertexCount vertices) r)) crossed (toZ w32 sum)
 
 abbrev μ-loop : tie.MeasureT-loop
-μ-loop vertices boxes arc run stop closing r₀ crossed₀ sum₀ r crossed sum = runCount (vertexCount vertices) - r
+μ-loop vertices boxes arc from stop closing r₀ crossed₀ sum₀ r crossed sum = runCount (vertexCount vertices) - r
 
 module _ (s : tie.Start Inv-loop μ-loop) where
   abbrev vs : List ℤ
@@ -43,7 +44,7 @@ module _ (s : tie.Start Inv-loop μ-loop) where
   n = vertexCount vs
 
   abbrev begin : ℕ
-  begin = runStart n (s .args .run)
+  begin = s .args .from
 
   abbrev TalliedTo : ℕ → ℕ → ℤ → Type 0
   TalliedTo i crossed sum =
@@ -60,6 +61,16 @@ module _ (s : tie.Start Inv-loop μ-loop) where
       tallied-past vs (s .args .arc .from) (s .args .arc .to) (reference (s .pre .0 .aimed) .off-circle) (s .args .stop) to
       b h l all t
 
+  -- from where the local says
+  said : (to : ℕ) {i j : ℕ} {tally : Tally} → i ≡ j →
+      tallyOn (stopsAt vs (s .args .arc .to) (s .args .stop)) vs (s .args .arc .from) (s .args .arc .to) i (to - i)
+      ≡ tally →
+      tallyOn (stopsAt vs (s .args .arc .to) (s .args .stop)) vs (s .args .arc .from) (s .args .arc .to) j (to - j)
+      ≡ tally
+  said to {i} {j} {tally} e h =
+      subst (λ i. tallyOn (stopsAt vs (s .args .arc .to) (s .args .stop)) vs (s .args .arc .from) (s .args .arc .to) i
+      (to - i) ≡ tally) e h
+
 vertex-at-requires : tie.Need-vertex-at-requires Inv-loop μ-loop
 vertex-at-requires c κs = omega (arith, reference (c .pre .0 .aimed) .accepted .listed .least)
 
@@ -73,7 +84,12 @@ side-of-requires c κs =
 
 loop-holds : tie.Need-loop-holds Inv-loop μ-loop
 loop-holds c =
-    let s = c .before .before in (omega arith, omega (arith, s .pre .1), tallied-start (begin s))
+    let s = c .before .before in
+    let own : begin s ≡ laterOf (begin s) (runStart (n s) (begin s / 32)) = omega arith in (
+      omega arith,
+      omega (arith, run-of (n s) (begin s) (s .pre .1)),
+      subst (λ i. TalliedTo s i 0 (pos 0)) own (tallied-start (begin s)),
+    )
 
 next-span-requires : tie.Need-next-span-requires Inv-loop μ-loop
 next-span-requires c κs =
@@ -90,26 +106,41 @@ module _ (c : tie.After-next-span Inv-loop μ-loop) where
   abbrev span : Span
   span = c .next-span .result
 
-  -- no run before the first
-  later : begin start ≤ runStart (n start) (at .loop .r)
-  later = omega (arith, at .loop .inv .0)
+  -- where the walk goes on
+  abbrev on : ℕ
+  on = laterOf (begin start) (span .from)
 
-  here : TalliedTo start (span .from) (at .loop .crossed) (toZ w32 (at .loop .sum))
+  inside : on ≤ n start
+  inside = omega (arith, spanned-within (c .next-span .ensures), start .pre .1)
+
+  here : TalliedTo start on (at .loop .crossed) (toZ w32 (at .loop .sum))
   here =
       let p = c .next-span .ensures in
-      past start (span .from) later (p .after) (spanned-within p) (p .left-before) (at .loop .inv .2)
+      past start on (omega arith) (omega (arith, p .after)) inside
+      (λ j h l. p .left-before j (omega (arith, h)) (omega (arith, h, l))) (at .loop .inv .2)
+
+  -- a span that is not empty
+  less : span .from < span .to → on < span .to
+  less h =
+      let l = at .loop in
+      let w = c .next-span .ensures .whole h in
+      omega (arith, h, w, l .inv .0, start .pre .1)
+
+later-requires : tie.Need-later-requires Inv-loop μ-loop
+later-requires c κs = search needs
 
 walk-edges-requires : tie.Need-walk-edges-requires Inv-loop μ-loop
 walk-edges-requires c κs =
-    let a = c .before .before in
+    let a = c .before .before .before in
     let s = start a in
     let d = at a .before in
-    let side = d .side-of in (
+    let side = d .side-of in
+    let begins = c .later .ensures in (
       (
         s .pre .0 .aimed,
         sided-result (side .result) (record { sfits = side .ok }) (side .ensures) (d .before .vertex-at .ensures),
       ),
-      (c .if1 .left, a .next-span .ensures .within),
+      (omega (arith, begins, less a (c .before .if1 .left)), a .next-span .ensures .within),
     )
 
 enum-known-edge : tie.Need-enum-known-edge Inv-loop μ-loop
@@ -124,10 +155,10 @@ module _ (c : tie.After-known-told2 Inv-loop μ-loop) where
   walked = c .before .before .before
 
   abbrev a : tie.After-next-span Inv-loop μ-loop
-  a = walked .before .before .before
+  a = walked .before .before .before .before
 
   some : span a .from < span a .to
-  some = walked .before .if1 .left
+  some = walked .before .before .if1 .left
 
   abbrev ways : ℤ
   ways = c .before .more .given .0 .1 .0
@@ -135,23 +166,21 @@ module _ (c : tie.After-known-told2 Inv-loop μ-loop) where
   fit : SFits w32 ways
   fit = record { sfits = c .known-told2 .given .1 .0 .1 }
 
-  -- the span is not before the first run
-  fore : begin (start a) ≤ span a .from
-  fore = omega (arith, later a, a .next-span .ensures .after)
-
-  next : TalliedTo (start a) (runStart (n (start a)) (span a .next))
+  next : TalliedTo (start a) (laterOf (begin (start a)) (runStart (n (start a)) (span a .next)))
       (at a .loop .crossed + c .before .more .given .0 .0) (toZ w32 (at a .loop .sum) +ℤ ways)
   next =
       let p = a .next-span .ensures in
-      let there : span a .from + (span a .to - span a .from) ≡ span a .to = omega (arith, some) in
-      past (start a) _ (omega (arith, fore, some)) (p .behind) (omega arith) (p .left-after)
+      let l = less a some in
+      let there : on a + (span a .to - on a) ≡ span a .to = omega (arith, l) in
+      past (start a) _ (omega (arith, l)) (omega (arith, p .behind, l)) (omega (arith, start a .pre .1))
+      (λ j h m. p .left-after j h (omega (arith, h, m, l)))
       (subst (λ i. TalliedTo (start a) i (at a .loop .crossed + c .before .more .given .0 .0) (toZ w32 (at a .loop .sum)
       +ℤ ways)) there
-      (on-block (span a .to - span a .from) fore (here a)
-      (sym (walked .walk-edges .ensures) ∙ c .before .more .given .1)))
+      (on-block (span a .to - on a) (omega arith) (here a)
+      (said (start a) (span a .to) (walked .before .later .ensures) (sym (walked .walk-edges .ensures) ∙ c .before .more .given .1))))
 
-  few : runStart (n (start a)) (span a .next) ≤ 4096
-  few = omega (arith, most (start a))
+  few : laterOf (begin (start a)) (runStart (n (start a)) (span a .next)) ≤ 4096
+  few = omega (arith, most (start a), start a .pre .1)
 
 add-crossed : tie.Need-add-crossed Inv-loop μ-loop
 add-crossed c = omega (arith, tallied-few (next c), few c)
@@ -185,13 +214,15 @@ returns c =
     let p = f .next-span .ensures in
     c .tally-by .ensures ∙ ⊎-elim
     (λ w.
-    let all = subst (λ i. TalliedTo s i (l .crossed) (toZ w32 (l .sum))) (p .last (w .0 .taken)) (here f) in
+    let last : on f ≡ n s = omega (arith, p .last (w .0 .taken), s .pre .1) in
+    let all = subst (λ i. TalliedTo s i (l .crossed) (toZ w32 (l .sum))) last (here f) in
     rw (w .1) (sym (on-end all)))
     (λ w.
-    let within : span f .from + (span f .to - span f .from) ≤ n s = omega (arith, w .0 .left, p .within) in
-    let held = on-held (span f .to - span f .from) (omega (arith, later f, p .after)) (here f) (n s) within
-    (sym (w .1 .ensures) ∙ w .3 .given .1) in
-    rw (w .5) (sym held))
+    let more = less f (w .0 .left) in
+    let within : on f + (span f .to - on f) ≤ n s = omega (arith, more, p .within) in
+    let held = on-held (span f .to - on f) (omega arith) (here f) (n s) within
+    (said s (span f .to) (w .1 .ensures) (sym (w .2 .ensures) ∙ w .4 .given .1)) in
+    rw (w .6) (sym held))
     (c .before .if1 .came)
 
 pub walk-spans-spec : {M : Type 1} → statement M
@@ -204,6 +235,7 @@ walk-spans-spec =
     side-of-requires
     loop-holds
     next-span-requires
+    later-requires
     walk-edges-requires
     enum-known-edge
     enum-known-more

@@ -12,8 +12,8 @@ use Rattle.polygon.specs.Verdict.{isHeldBy}
 use Rattle.polygon.proofs.Laws.Checks.{gridded-fine}
 use Rattle.polygon.proofs.Laws.Edges.{end-within}
 use Rattle.search.proofs.Laws.Arc.{reference}
-use Rattle.search.proofs.walk.stops_at.Statement.{statement}
-use Rattle.search.proofs.walk.stops_at.Tie as tie
+use Rattle.search.proofs.border.stops_at.Statement.{statement}
+use Rattle.search.proofs.border.stops_at.Tie as tie
 
 vertex-at-requires : tie.Need-vertex-at-requires
 vertex-at-requires c κs = omega (arith, c .pre .0 .1)
