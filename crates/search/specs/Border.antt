@@ -1,6 +1,6 @@
 -- Which edge that holds the query is border (document 02, P3): for the code alone. Defined, in order: Foremost,
--- ClassMarked (one class); heldOr, NextHeld, NextOther, Settled (the edges that hold the query, one by one). A list of marks has a
--- number for each edge: 1 if the edge is marked.
+-- ClassMarked (one class); heldOr, NextHeld, NextOther, Settled (the edges that hold the query, one by one). A list of
+-- marks has a number for each edge: 1 if the edge is marked.
 use mathlib.Core.Path.{_≡_}
 use mathlib.Core.Bool.{true, false, cond}
 use mathlib.Core.List.{List}

@@ -1,5 +1,5 @@
--- Runs that are skipped and runs that are not (document 02, P2): for the code alone. Defined, in order: runStart, laterOf;
--- Cornered, isRun (one run); Spanned (edges that are walked together).
+-- Runs that are skipped and runs that are not (document 02, P2): for the code alone. Defined, in order: runStart,
+-- laterOf; Cornered, isRun (one run); Spanned (edges that are walked together).
 use mathlib.Core.Path.{_≡_}
 use mathlib.Core.Bool.{Bool, Bool·beq, true}
 use mathlib.Core.List.{List}

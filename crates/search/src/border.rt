@@ -1,7 +1,7 @@
 // Which edge that holds the query is border: document 02's P3. Here, in order: stops_at, mark_class, is_border (one
 // edge); held_or, next_held, next_other, is_new_border, first_border (those that hold it); tally_marked, tally_past,
-// tally_held, tally_arc (what all edges say). Edges that join the same two directions, a class, hold the same points and
-// are border together: each class is counted once, from its first edge on.
+// tally_held, tally_arc (what all edges say). Edges that join the same two directions, a class, hold the same points
+// and are border together: each class is counted once, from its first edge on.
 ghost use mathlib.Core.Path.{_≡_};
 ghost use mathlib.Core.Bool.{true, false};
 ghost use Prim.Native.Nat.{_+_, _-_, _/_, _<_};
@@ -28,8 +28,8 @@ use polygon::vertices::end_of;
 use polygon::vertices::vertex_at;
 use sphere::edge::on_edge_by;
 
-// Whether the walk ends at edge i, which holds the query; by side, which has the sign of the orientation of its ends and
-// the query.
+// Whether the walk ends at edge i: if it holds the query, and `stop` says so. By side, which has the sign of the
+// orientation of its ends and the query.
 pub(crate) fn stops_at(vertices: &[i32], arc: Arc, stop: bool, i: usize, side: i64) -> bool
     requires { ⌜ AcceptedArc (now vertices) arc × (i < vertexCount (now vertices)) ⌝ }
     requires { ⌜ signOf side ≡ signOf (orientationOf (startOf (now vertices) i) (endOf (now vertices) i) (arc .to)) ⌝ }

@@ -1,4 +1,5 @@
-// Runs that are skipped and runs that are not (document 02, P2). Here, in order: next_run, later, run_start, Span, next_span.
+// Runs that are skipped and runs that are not (document 02, P2). Here, in order: next_run, later, run_start, Span,
+// next_span.
 ghost use mathlib.Core.Path.{_≡_};
 ghost use Prim.Native.Nat.{_-_, _≤_};
 ghost use Rattle.sphere.specs.Point.{limitOf};

@@ -1,6 +1,6 @@
 // The walk over a polygon's edges: document 01's 'When the arc crosses a side', and document 02's P2. Here, in order:
 // EdgeTest, test_edge (one edge); counted, Tally, tally_by, walk_edges, walk_spans (some edges); tally_edges,
-// Searched, uncounted, count_edges, Mode, search_edges (all). Which edges that hold the query are border: module border.
+// Searched, uncounted, count_edges, Mode, search_edges (all). Which edges that hold the query are border: border.rt.
 ghost use mathlib.Core.Path.{_≡_};
 ghost use mathlib.Core.Bool.{cond};
 ghost use Prim.Native.Nat.{_-_, _≤_, _<_};
@@ -37,8 +37,8 @@ use sphere::plane::side_of;
 use sphere::point::Grid;
 use sphere::point::Point;
 
-// What one edge says of a query: it is border and holds it, or which way the arc crosses it (0: not at all). Here, where
-// a walk asks for edges that hold the query, the first says so of any that does.
+// What one edge says of a query: it is border and holds it, or which way the arc crosses it (0: not at all). Here,
+// where a walk asks for edges that hold the query, the first says so of any that does.
 pub enum EdgeTest {
     OnBorder,
     Way(i32),
@@ -159,8 +159,8 @@ pub(crate) fn walk_spans(
     tally_by(found, crossed, sum)
 }
 
-// What all edges say of a query: by the boxes beside the polygon, or by all of it. As tally_arc, which is for one caller:
-// with two the compiler leaves the rare tally_held out of both.
+// What all edges say of a query: by the boxes beside the polygon, or by all of it. As tally_arc, which has one caller:
+// so that tally_held has two, and the compiler leaves that rare path out of either.
 fn tally_edges(
     grid: Grid,
     vertices: &[i32],

@@ -1,6 +1,6 @@
--- Points off a direction, by one number of the cross product or their sum. Proved, in order: off-not-same, off-not-joined (an
--- edge with both ends off C joins no direction to C's); off-start, off-step, off-elsewhere, elsewhere-none (as a loop
--- goes); unjoined-start, unjoined-append, unjoined-step, counted-one, counted-none (edges);
+-- Points off a direction, by one number of the cross product or their sum. Proved, in order: off-not-same,
+-- off-not-joined (an edge with both ends off C joins no direction to C's); off-start, off-step, off-elsewhere,
+-- elsewhere-none (as a loop goes); unjoined-start, unjoined-append, unjoined-step, counted-one, counted-none (edges);
 -- joined-more, joined-rest (how many).
 use mathlib.Core.Path.{_≡_, refl, sym, _∙_, ap}
 use mathlib.Core.Bool.{Bool, true, false, not, cond, true≢false}
@@ -25,8 +25,8 @@ use Rattle.answer.proofs.Laws.Blocks.{count-append, count-none}
 use Rattle.polygon.proofs.Laws.Edges.{next-start}
 
 -- Where the cross product is null, so is each number by which it is asked.
-none-off : (s t u : Bool) → not (isZero (signOf (cond s (pos 0 +ℤ pos 0 +ℤ pos 0) (cond t (pos 0) (cond u (pos 0) (pos 0))))))
-    ≡ false
+none-off : (s t u : Bool) →
+    not (isZero (signOf (cond s (pos 0 +ℤ pos 0 +ℤ pos 0) (cond t (pos 0) (cond u (pos 0) (pos 0)))))) ≡ false
 none-off true t u = refl
 none-off false true u = refl
 none-off false false true = refl
@@ -39,7 +39,8 @@ off-not-same axis C P e = go (isSameDirection C P) refl
     go : (t : Bool) → isSameDirection C P ≡ t → isSameDirection C P ≡ false
     go false h = h
     go true h =
-        let line : crossOf C P ≡ origin = null→origin (crossOf C P) (and-l (isNull (crossOf C P)) (isPositive (signOf (dotOf C P))) (rw h tt)) in
+        let line : crossOf C P ≡ origin = null→origin (crossOf C P)
+        (and-l (isNull (crossOf C P)) (isPositive (signOf (dotOf C P))) (rw h tt)) in
         absurd (true≢false (sym e ∙ ap (λ n. not (isZero (signOf (cond (eqb axis 3) (sumOf n) (numberOf axis n))))) line
         ∙ none-off (eqb axis 3) (eqb axis 0) (eqb axis 1)))
 
@@ -69,7 +70,8 @@ module _ {vs : List ℤ} {C : Point} {i : ℕ} where
     off-elsewhere last h e m = record {
       after = h;
       each = λ D j k l. off-not-joined C D (startOf vs j) (endOf vs j) (o .each j k (omega (arith, l, e)))
-          (rw (next-start vs j (j + 1) refl (omega (arith, l, e, m))) (o .each (j + 1) (omega (arith, k)) (omega (arith, l, e))));
+          (rw (next-start vs j (j + 1) refl (omega (arith, l, e, m)))
+          (o .each (j + 1) (omega (arith, k)) (omega (arith, l, e))));
     }
 
 pub elsewhere-none : {vs : List ℤ} {C : Point} {i to : ℕ} → i ≤ to → to ≤ i → Elsewhere vs C i to

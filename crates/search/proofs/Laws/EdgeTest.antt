@@ -1,5 +1,5 @@
--- One edge. Proved, in order: one-sided-by, one-sided-test (ends strictly on one side), way-by (which way it is crossed, by the four
--- orientations).
+-- One edge. Proved, in order: one-sided-by, one-sided-test (ends strictly on one side), way-by (which way it is
+-- crossed, by the four orientations).
 use mathlib.Core.Path.{_≡_}
 use mathlib.Core.Bool.{Bool, true, _&&_}
 use mathlib.Core.List.{List}

@@ -1,7 +1,7 @@
 -- What a walk that ends at the first edge that holds P says. Proved, in order: held-stop, next-stop (the next such
 -- edge); all-edges, tally-none (none holds P); first-held, first-below, first-holds, first-foremost, first-border (the
--- first that does); other-foremost, other-none (the first of another class); tally-at, tally-passed (by the first border
--- edge that does).
+-- first that does); other-foremost, other-none (the first of another class); tally-at, tally-passed (by the first
+-- border edge that does).
 use mathlib.Core.Path.{_≡_, refl, sym, _∙_, ap, subst}
 use mathlib.Core.Bool.{Bool, true, false, _&&_, true≢false}
 use mathlib.Core.List.{List}
@@ -143,10 +143,12 @@ module _ (vs : List ℤ) (X P : Point) where
               isCoincident vs (startOf vs at) (endOf vs at) j ≡ false
           go j l false e = e
           go j l true e =
-              let held : isHeldBy vs P j ≡ true = sym (joins-held (startOf vs at) (endOf vs at) (startOf vs j) (endOf vs j)
-              X P (off at h) (off j (omega (arith, l, h))) (rw e tt)) ∙ o .held h in
+              let held : isHeldBy vs P j ≡ true =
+              sym (joins-held (startOf vs at) (endOf vs at) (startOf vs j) (endOf vs j) X P (off at h)
+              (off j (omega (arith, l, h))) (rw e tt)) ∙ o .held h in
               absurd (true≢false (sym (same j l held)
-              ∙ sym (joined-test (joinsOf (startOf vs edge) (endOf vs edge)) (joins-test (startOf vs edge) (endOf vs edge))
+              ∙ sym (joined-test (joinsOf (startOf vs edge) (endOf vs edge))
+              (joins-test (startOf vs edge) (endOf vs edge))
               (startOf vs at) (endOf vs at) (startOf vs j) (endOf vs j) e)
               ∙ o .other h))
 

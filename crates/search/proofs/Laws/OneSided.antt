@@ -29,8 +29,8 @@ module _ (vs : List ℤ) (X P : Point) where
     pub one-sided-not-held : (j : ℕ) → j < vertexCount vs → isOneSided vs X P j ≡ true → isHeldBy vs P j ≡ false
     one-sided-not-held j h e = beside-not-on X P (startOf vs j) (endOf vs j) (off j h) e
 
-    pub one-sided-tally : (stop : Bool) (i k : ℕ) → i + k ≤ vertexCount vs → Each (λ j. isOneSided vs X P j ≡ true) i k →
-        tallyOn (stopsAt vs P stop) vs X P i k ≡ Crossed 0 (pos 0)
+    pub one-sided-tally : (stop : Bool) (i k : ℕ) → i + k ≤ vertexCount vs →
+        Each (λ j. isOneSided vs X P j ≡ true) i k → tallyOn (stopsAt vs P stop) vs X P i k ≡ Crossed 0 (pos 0)
     one-sided-tally stop i k h all =
         rw (
           none-first (stopsAt vs P stop) i k (λ j l m. rw (one-sided-not-held j (omega (arith, m)) (all j l m))),

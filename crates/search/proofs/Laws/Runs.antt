@@ -1,6 +1,6 @@
--- Runs of 32 edges. Defined: Ends, Run, Between. Proved, in order: run-ends, run-within, run-known, run-few, run-of, run-holds, runs-few,
--- runs-below; start-of, start-last, start-runs, run-next (where a run begins), between (the edges from there to where
--- another one does).
+-- Runs of 32 edges. Defined: Ends, Run, Between. Proved, in order: run-ends, run-within, run-known, run-few, run-of,
+-- run-holds, runs-few, runs-below; start-of, start-last, start-runs, run-next (where a run begins), between (the edges
+-- from there to where another one does).
 use mathlib.Core.Path.{_≡_, refl}
 use mathlib.Core.Bool.{Bool, true, false, cond}
 use Prim.Native.Nat.{ℕ, _+_, _*_, _-_, _/_, _≤_, _<_}

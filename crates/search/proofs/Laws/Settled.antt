@@ -59,8 +59,8 @@ one-of-two true = refl
 one-of-two false = refl
 
 module _ {vs : List ℤ} {P : Point} where
-  pub settled-start : {marks : List ℕ} → vertexCount vs ≤ length marks → ((j : ℕ) → j < vertexCount vs → getD marks j 0 ≡ 0) →
-      Settled vs P 0 marks
+  pub settled-start : {marks : List ℕ} → vertexCount vs ≤ length marks →
+      ((j : ℕ) → j < vertexCount vs → getD marks j 0 ≡ 0) → Settled vs P 0 marks
   settled-start room clear = record {
     room = room;
     held = λ j h e. absurd (omega arith);
@@ -112,8 +112,9 @@ module _ {vs : List ℤ} {P : Point} where
           go : (j : ℕ) → j < i → (t : Bool) → own j ≡ t → own j ≡ false
           go j l false e = e
           go j l true e =
-              let here : isHeldBy vs P j ≡ true = sym (joins-held (startOf vs i) (endOf vs i) (startOf vs j) (endOf vs j)
-              X P (off i h) (off j (omega (arith, l, h))) (rw e tt)) ∙ held in
+              let here : isHeldBy vs P j ≡ true =
+              sym (joins-held (startOf vs i) (endOf vs i) (startOf vs j) (endOf vs j) X P (off i h)
+              (off j (omega (arith, l, h))) (rw e tt)) ∙ held in
               absurd (unmarked (s .alike i j h (omega (arith, l, h)) e ∙ s .held j l here))
 
       -- its class is marked, and is no border
@@ -139,7 +140,8 @@ module _ {vs : List ℤ} {P : Point} where
               at j (omega (arith, less, h)) ∙ ap (cond (own j) 1) (s .held j less e) ∙ one-of-two (own j)
           go false {j} t l e =
               let same : j ≡ i = omega (arith, ltb-false j i t, l) in
-              rw same (at i h ∙ ap (λ t. cond t 1 (getD marks i 0)) (joins-self (startOf vs i) (endOf vs i) X (off i h)))
+              rw same (at i h
+              ∙ ap (λ t. cond t 1 (getD marks i 0)) (joins-self (startOf vs i) (endOf vs i) X (off i h)))
 
           plain : (t : Bool) {j : ℕ} → own j ≡ t → j < vertexCount vs → getD after j 0 ≡ 1 → isBorder vs j ≡ false
           plain true {j} t l e = border-same vs i j t ∙ none

@@ -134,8 +134,8 @@ returns-2 c =
     let inv = l .loop .inv in
     let all : l .loop .j ≡ s .to = omega (arith, c .loop-test .left, inv .before) in (
       sym (rw all at (inv .counted)),
-      subst (λ k. Marked (isCoincident (s .vertices .now) (s .c) (s .d)) (s .from) k (s .marks .now) (l .loop .marks)) all
-          (inv .marked),
+      subst (λ k. Marked (isCoincident (s .vertices .now) (s .c) (s .d)) (s .from) k (s .marks .now) (l .loop .marks))
+          all (inv .marked),
     )
 
 pub mark-edges-spec : {M : Type 1} → statement M

@@ -39,7 +39,8 @@ off : (c : tie.After-is-off Inv-loop μ-loop) → c .is-off .result ≡ true →
 off c e =
     let v = c .before in
     let s = v .before .before .before .args in
-    off-not-same (s .axis) (s .c) _ (ap (isOff (s .axis) (s .c)) (sym (v .vertex-at .ensures)) ∙ sym (c .is-off .ensures) ∙ e)
+    off-not-same (s .axis) (s .c) _
+    (ap (isOff (s .axis) (s .c)) (sym (v .vertex-at .ensures)) ∙ sym (c .is-off .ensures) ∙ e)
 
 add-at : tie.Need-add-at Inv-loop μ-loop
 add-at c = search needs
@@ -50,7 +51,8 @@ loop-less c = omega (arith, c .before .before .before .loop-test .taken)
 loop-again : tie.Need-loop-again Inv-loop μ-loop
 loop-again c =
     let l = c .before .before .before in
-    (off-step (l .before .loop .inv .0) (off (c .before) (not-false _ (c .if1 .left))), omega (arith, l .loop-test .taken))
+    let more = off-step (l .before .loop .inv .0) (off (c .before) (not-false _ (c .if1 .left))) in
+    (more, omega (arith, l .loop-test .taken))
 
 returns-2 : tie.Need-returns-2 Inv-loop μ-loop
 returns-2 c = c .before .loop .inv

@@ -35,19 +35,23 @@ mul-result c = let s = c .before .before .before .before in formula-fits (first 
 sub-result-3 : tie.Need-sub-result-3
 sub-result-3 c = let s = c .before .before .before .before .before .before in formula-fits (y-of (C s) ⊖ z-of (C s)) tt
 
+-- After all six numbers were read.
+abbrev end : tie.After-struct-told4 → tie.Start
+end c = c .before .before .before .before .before .before .before .before
+
 sub-result-4 : tie.Need-sub-result-4
-sub-result-4 c = let s = c .before .before .before .before .before .before .before .before in formula-fits (x-of (P s) ⊖ z-of (P s)) tt
+sub-result-4 c = let s = end c in formula-fits (x-of (P s) ⊖ z-of (P s)) tt
 
 mul-result-2 : tie.Need-mul-result-2
-mul-result-2 c = let s = c .before .before .before .before .before .before .before .before in formula-fits (second s) tt
+mul-result-2 c = formula-fits (second (end c)) tt
 
 sub-result-5 : tie.Need-sub-result-5
-sub-result-5 c = let s = c .before .before .before .before .before .before .before .before in formula-fits (first s ⊖ second s) tt
+sub-result-5 c = let s = end c in formula-fits (first s ⊖ second s) tt
 
 returns : tie.Need-returns
 unfolding crossOf
 returns c =
-    let s = c .before .before .before .before .before .before .before .before in
+    let s = end c in
     formula-same (first s ⊖ second s) tt
     ∙ vecs 2 (λ c p. (c .x :- c .z) :* (p .y :- p .z) :- (c .y :- c .z) :* (p .x :- p .z)
     := crossE c p .x :+ crossE c p .y :+ crossE c p .z) tt (s .args .c) (s .args .p)

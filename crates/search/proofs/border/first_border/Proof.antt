@@ -28,7 +28,8 @@ loop-holds c =
     let most = reference (c .pre .aimed) .accepted .listed .most in
     let none : ℕ = 0 in
     let all = length-replicate 4096 none in
-    (omega arith, all, settled-start (omega (arith, most, all)) (λ j h. getD-replicate 4096 j 0 0 (omega (arith, h, most))))
+    let clear = settled-start (omega (arith, most, all)) (λ j h. getD-replicate 4096 j 0 0 (omega (arith, h, most))) in
+    (omega arith, all, clear)
 
 next-held-requires : tie.Need-next-held-requires Inv-loop μ-loop
 next-held-requires c κs = (c .before .before .pre, c .loop-test .taken)
@@ -104,7 +105,8 @@ returns-3 : tie.Need-returns-3 Inv-loop μ-loop
 unfolding boundaryOf
 returns-3 c =
     let l = c .before in
-    let last : l .loop .i ≡ vertexCount (l .before .args .vertices .now) = omega (arith, c .loop-test .left, l .loop .inv .0) in
+    let last : l .loop .i ≡ vertexCount (l .before .args .vertices .now) =
+    omega (arith, c .loop-test .left, l .loop .inv .0) in
     sym (subst (λ k. NoneBefore (l .before .args .vertices .now) (l .before .args .arc .to) k) last
     (settled-none (l .loop .inv .2) (l .loop .inv .0)))
 

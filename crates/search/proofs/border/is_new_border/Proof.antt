@@ -12,7 +12,8 @@ slice-read-if1 c = search needs
 returns : tie.Need-returns
 returns c =
     let s = c .before .before .before in
-    (sym (s .pre .3 .unbordered (s .args .i) (s .pre .1) (c .if1 .taken)), λ e. settled-marked (s .pre .3) (c .if1 .taken))
+    let own = c .if1 .taken in
+    (sym (s .pre .3 .unbordered (s .args .i) (s .pre .1) own), λ e. settled-marked (s .pre .3) own)
 
 is-border-requires : tie.Need-is-border-requires
 is-border-requires c κs =
@@ -20,8 +21,8 @@ is-border-requires c κs =
       s .pre .0,
       s .pre .1,
       s .pre .2,
-      settled-foremost (s .pre .3) (s .args .arc .from) (reference (s .pre .0 .aimed) .off-circle) (s .pre .1) (s .pre .2)
-          (c .before .if1 .left),
+      settled-foremost (s .pre .3) (s .args .arc .from) (reference (s .pre .0 .aimed) .off-circle) (s .pre .1)
+          (s .pre .2) (c .before .if1 .left),
     )
 
 same-length : tie.Need-same-length

@@ -133,11 +133,12 @@ module _ (c : tie.After-coincident Inv-loop μ-loop) where
 
   own : {t : Bool} →
       isCoincident (vs next) (ends next .before .vertex-at .result) (ends next .end-of .result) (edge next) ≡ t →
-      isCoincident (vs next) (startOf (vs next) (s next .args .first)) (endOf (vs next) (s next .args .first)) (edge next)
-      ≡ t
+      let first = s next .args .first in
+      isCoincident (vs next) (startOf (vs next) first) (endOf (vs next) first) (edge next) ≡ t
   own e =
-      sym (λ k. isCoincident (vs next) (ends next .before .vertex-at .ensures k) (ends next .end-of .ensures k) (edge next))
-      ∙ e
+      let a = ends next .before .vertex-at .ensures in
+      let b = ends next .end-of .ensures in
+      sym (λ k. isCoincident (vs next) (a k) (b k) (edge next)) ∙ e
 
 returns-2 : tie.Need-returns-2 Inv-loop μ-loop
 returns-2 c =

@@ -23,7 +23,8 @@ walked : (c : tie.After-walk-spans) →
 walked c =
     let v = c .before .args in
     let vs = v .vertices .now in
-    sym (c .walk-spans .ensures ∙ all-edges (stopsAt vs (v .arc .to) true) vs (v .arc .from) (v .arc .to) (vertexCount vs))
+    sym (c .walk-spans .ensures
+    ∙ all-edges (stopsAt vs (v .arc .to) true) vs (v .arc .from) (v .arc .to) (vertexCount vs))
 
 enum-known-edge : tie.Need-enum-known-edge
 enum-known-edge c = search needs

@@ -1,4 +1,4 @@
--- `tally_past` meets its contract: an edge that holds the query, of another class than the first, is the first of its own.
+-- `tally_past` meets its contract: the first edge that holds the query and is of another class is the first of that.
 use mathlib.Core.Path.{_≡_, sym, _∙_, ap, subst}
 use mathlib.Core.Bool.{false, _&&_}
 use native.Mathlib.Omega.{arith}
@@ -25,7 +25,8 @@ next-other-requires c κs =
 
 -- No edge before the one found is border and holds the query.
 none : (c : tie.After-next-other) →
-    let v = c .before .args in firstFrom (isOnBorder (v .vertices .now) (v .arc .to)) 0 (c .next-other .result) ≡ Nothing
+    let v = c .before .args in
+    firstFrom (isOnBorder (v .vertices .now) (v .arc .to)) 0 (c .next-other .result) ≡ Nothing
 none c =
     let s = c .before in
     other-none (s .args .vertices .now) (s .args .arc .from) (s .args .arc .to) (s .pre .1) (off s)
@@ -72,7 +73,8 @@ returns-2 c =
     let vs = v .vertices .now in
     let edge = n .next-other .result in
     let more = b .before .before .if1 .left in
-    sym (tally-at vs (v .arc .from) (v .arc .to) (first-at (isOnBorder vs (v .arc .to)) edge (vertexCount vs) (none n) more
+    sym (tally-at vs (v .arc .from) (v .arc .to)
+    (first-at (isOnBorder vs (v .arc .to)) edge (vertexCount vs) (none n) more
     (ap (λ t. t && isBorder vs edge) (n .next-other .ensures .held more) ∙ sym (b .is-border .ensures .0)
     ∙ c .if2 .taken)))
 

@@ -1,4 +1,5 @@
--- `count_edges` meets its contract: the walk by the arc between both points; how far the search comes, and of those the edges whose runs are not skipped.
+-- `count_edges` meets its contract: the walk by the arc between both points; how far the search comes, and of those the
+-- edges whose runs are not skipped.
 use mathlib.Core.Path.{sym, _∙_, ap, subst}
 use mathlib.Core.Bool.{true}
 use Prim.Native.Nat.{ℕ, _≤_}

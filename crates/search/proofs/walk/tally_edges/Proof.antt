@@ -21,8 +21,8 @@ searchable : (c : tie.After-arc-between) →
     Searchable (c .before .args .vertices .now) (c .before .args .boxes .now) (c .arc-between .result)
 searchable c =
     let s = c .before in
-    arc-searchable (s .args .grid) (s .args .known) (s .args .query) (s .args .by-boxes) (s .pre .0) (s .pre .1) (s .pre .2)
-    (c .arc-between .ensures)
+    arc-searchable (s .args .grid) (s .args .known) (s .args .query) (s .args .by-boxes) (s .pre .0) (s .pre .1)
+    (s .pre .2) (c .arc-between .ensures)
 
 walk-spans-requires : tie.Need-walk-spans-requires
 walk-spans-requires c κs =

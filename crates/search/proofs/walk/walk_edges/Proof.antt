@@ -48,8 +48,8 @@ module _ (s : tie.Start Inv-loop μ-loop) where
 
   abbrev TalliedIn : ℕ → ℕ → ℤ → Type 0
   TalliedIn i crossed sum =
-      TalliedOn (stopsAt vs (s .args .arc .to) (s .args .stop)) vs (s .args .arc .from) (s .args .arc .to) (s .args .from) i
-      crossed sum
+      TalliedOn (stopsAt vs (s .args .arc .to) (s .args .stop)) vs (s .args .arc .from) (s .args .arc .to)
+      (s .args .from) i crossed sum
 
   -- past the edges that a scan passes
   onward : {i crossed : ℕ} {sum : ℤ} {near : Near} → s .args .from ≤ i →
@@ -136,7 +136,8 @@ module _ (c : tie.After-counted Inv-loop μ-loop) where
   next =
       let s = entry edge .args in
       on-block 1 (after edge) (here edge)
-      (one-way (stopsAt (s .vertices .now) (s .arc .to) (s .stop)) (s .vertices .now) (s .arc .from) (s .arc .to) (i edge)
+      (one-way (stopsAt (s .vertices .now) (s .arc .to) (s .stop)) (s .vertices .now) (s .arc .from) (s .arc .to)
+      (i edge)
       (sym (tested .test-edge .ensures) ∙ c .before .before .way .given .1)
       (rw (toZ-ofZ w32 way fit) at (c .counted .ensures)))
 
@@ -184,7 +185,8 @@ returns c =
     let all = subst (λ i. TalliedIn (entry e) i (l .crossed) (toZ w32 (l .sum))) last (here e) in
     rw (w .1) (sym (on-end all)))
     (λ w.
-    let found = one-held (stopsAt (s .vertices .now) (s .arc .to) (s .stop)) (s .vertices .now) (s .arc .from) (s .arc .to) (i e)
+    let found = one-held (stopsAt (s .vertices .now) (s .arc .to) (s .stop)) (s .vertices .now) (s .arc .from)
+    (s .arc .to) (i e)
     (sym (w .1 .ensures) ∙ w .3 .given .1) in
     rw (w .4) (sym (on-held 1 (after e) (here e) (s .to) (omega (arith, w .0 .left)) found)))
     (c .before .if1 .came)

@@ -48,7 +48,8 @@ module _ (s : tie.Start Inv-loop μ-loop) where
 
   abbrev TalliedTo : ℕ → ℕ → ℤ → Type 0
   TalliedTo i crossed sum =
-      TalliedOn (stopsAt vs (s .args .arc .to) (s .args .stop)) vs (s .args .arc .from) (s .args .arc .to) begin i crossed sum
+      TalliedOn (stopsAt vs (s .args .arc .to) (s .args .stop)) vs (s .args .arc .from) (s .args .arc .to) begin i
+      crossed sum
 
   most : n ≤ 4096
   most = reference (s .pre .0 .aimed) .accepted .listed .most
@@ -58,8 +59,8 @@ module _ (s : tie.Start Inv-loop μ-loop) where
       ((j : ℕ) → i ≤ j → j < to → isOneSided vs (s .args .arc .from) (s .args .arc .to) j ≡ true) →
       TalliedTo i crossed sum → TalliedTo to crossed sum
   past to b h l all t =
-      tallied-past vs (s .args .arc .from) (s .args .arc .to) (reference (s .pre .0 .aimed) .off-circle) (s .args .stop) to
-      b h l all t
+      tallied-past vs (s .args .arc .from) (s .args .arc .to) (reference (s .pre .0 .aimed) .off-circle) (s .args .stop)
+      to b h l all t
 
   -- from where the local says
   said : (to : ℕ) {i j : ℕ} {tally : Tally} → i ≡ j →
@@ -177,7 +178,8 @@ module _ (c : tie.After-known-told2 Inv-loop μ-loop) where
       (subst (λ i. TalliedTo (start a) i (at a .loop .crossed + c .before .more .given .0 .0) (toZ w32 (at a .loop .sum)
       +ℤ ways)) there
       (on-block (span a .to - on a) (omega arith) (here a)
-      (said (start a) (span a .to) (walked .before .later .ensures) (sym (walked .walk-edges .ensures) ∙ c .before .more .given .1))))
+      (said (start a) (span a .to) (walked .before .later .ensures)
+      (sym (walked .walk-edges .ensures) ∙ c .before .more .given .1))))
 
   few : laterOf (begin (start a)) (runStart (n (start a)) (span a .next)) ≤ 4096
   few = omega (arith, most (start a), start a .pre .1)
