@@ -1,6 +1,6 @@
 -- Document 02, P2: what a walk over some edges says, and the number of edges looked at. Defined, in order: testBy (one
--- edge); tallyBy, tallyOn, tallyFrom; NoneBefore, stopsAt; isLooked, reach, lookedFrom; asksBoxes, lookedIn (by the
--- mode), reachOf, Among, isLookedBy (as they are worked out). A walk goes over k edges from i on.
+-- edge); tallyBy, tallyOn, tallyFrom; NoneBefore, stopsAt; isLooked, reach, lookedFrom; isCounted, asksBoxes, lookedIn
+-- (by the mode), reachOf, Among, isLookedBy (as they are worked out). A walk goes over k edges from i on.
 use mathlib.Core.Path.{_≡_}
 use mathlib.Core.Bool.{Bool, false, true, not, _&&_, cond}
 use mathlib.Core.List.{List}
@@ -64,7 +64,12 @@ lookedFrom vs X P i k = countFrom (isLooked vs X P) i (reach (firstFrom (isOnBor
 
 -- ---- for the code alone: how the number of edges looked at is worked out
 
--- Whether the mode asks the boxes, and the number that it gives: 0 where it does not count.
+-- Whether the mode counts and whether it asks the boxes; and the number that it gives: 0 where it does not count.
+abbrev pub isCounted : Mode → Bool
+isCounted Plain = false
+isCounted Boxed = false
+isCounted Counted = true
+
 abbrev pub asksBoxes : Mode → Bool
 asksBoxes Plain = false
 asksBoxes Boxed = true

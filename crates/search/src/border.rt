@@ -1,7 +1,7 @@
 // Which edge that holds the query is border: document 02's P3. Here, in order: stops_at, mark_class, is_border (one
-// edge); held_or, next_held, next_other, is_new_border, first_border (those that hold it); tally_marked, tally_past,
-// tally_held, tally_arc (what all edges say). Edges that join the same two directions, a class, hold the same points
-// and are border together: each class is counted once, from its first edge on.
+// edge); held_or, next_held, joins, next_other, is_new_border, first_border (those that hold it); tally_marked,
+// tally_past, tally_held, tally_arc (what all edges say). Edges that join the same two directions, a class, hold the
+// same points and are border together: each class is counted once, from its first edge on.
 ghost use mathlib.Core.Path.{_≡_};
 ghost use mathlib.Core.Bool.{true, false};
 ghost use Prim.Native.Nat.{_+_, _-_, _/_, _<_};
@@ -9,6 +9,8 @@ ghost use Rattle.integers.specs.Sign.{signOf};
 ghost use Rattle.sphere.specs.Orientation.{orientationOf};
 ghost use Rattle.answer.specs.declared.Found.the-variants.{At};
 ghost use Rattle.answer.specs.Search.{firstFrom, countFrom};
+ghost use Rattle.sphere.specs.Point.{fine, Within};
+ghost use Rattle.polygon.specs.Accepted.{Gridded};
 ghost use Rattle.polygon.specs.Vertices.{vertexCount, startOf, endOf};
 ghost use Rattle.polygon.specs.Border.{isCoincident, isBorder, Marked};
 ghost use Rattle.polygon.specs.Verdict.{isHeldBy, boundaryOf};
@@ -22,11 +24,12 @@ use crate::spans::next_span;
 use crate::walk::Tally;
 use crate::walk::walk_spans;
 use answer::Found;
-use polygon::border::coincident;
 use polygon::border::mark_edges;
 use polygon::vertices::end_of;
 use polygon::vertices::vertex_at;
+use sphere::direction::same_direction;
 use sphere::edge::on_edge_by;
+use sphere::point::Point;
 
 // Whether the walk ends at edge i: if it holds the query, and `stop` says so. By side, which has the sign of the
 // orientation of its ends and the query.
@@ -98,6 +101,19 @@ fn next_held(vertices: &[i32], boxes: &[i32], arc: Arc, from: usize) -> usize
     )
 }
 
+// Edge j joins the directions of c and d. As polygon::border::coincident, which the compiler takes into the walk over
+// an index only while it has no third caller.
+fn joins(vertices: &[i32], c: Point, d: Point, j: usize) -> bool
+    requires { ⌜ Gridded fine (now vertices) × (j < vertexCount (now vertices)) × Within fine c × Within fine d ⌝ }
+    ensures { λ r. ⌜ r ≡ isCoincident (now (vertices .entry)) c d j ⌝ }
+{
+    let a = vertex_at(vertices, j);
+    let b = end_of(vertices, j);
+    let straight = same_direction(c, a) & same_direction(d, b);
+    let crossed = same_direction(c, b) & same_direction(d, a);
+    straight | crossed
+}
+
 // The next one after edge `first` that is not of its class.
 fn next_other(vertices: &[i32], boxes: &[i32], arc: Arc, first: usize) -> usize
     requires { ⌜ Searchable (now vertices) (now boxes) arc × (first < vertexCount (now vertices)) ⌝ }
@@ -112,7 +128,8 @@ fn next_other(vertices: &[i32], boxes: &[i32], arc: Arc, first: usize) -> usize
         if edge >= n {
             return n;
         }
-        if coincident(vertices, c, d, edge) != 1 {
+        let same = joins(vertices, c, d, edge);
+        if !same {
             return edge;
         }
         i = edge + 1;

@@ -1,4 +1,5 @@
-// The number of edges looked at (document 02, P2). Here, in order: reach_of, looked_in, looked_before.
+// The number of edges looked at (document 02, P2). Here, in order: reach_of, looked_in, looked_before; is_counted,
+// asks_boxes.
 ghost use mathlib.Core.Path.{_≡_};
 ghost use Prim.Native.Nat.{_*_, _-_, _≤_, _<_};
 ghost use Rattle.sphere.specs.Point.{limitOf};
@@ -6,8 +7,9 @@ ghost use Rattle.sphere.specs.Plane.{Sound};
 ghost use Rattle.answer.specs.Search.{countFrom};
 ghost use Rattle.search.specs.Boxes.{runCount, runEnd};
 ghost use Rattle.search.specs.Spans.{Cornered};
-ghost use Rattle.search.specs.Walk.{reachOf, Among, isLookedBy};
+ghost use Rattle.search.specs.Walk.{reachOf, Among, isLookedBy, isCounted, asksBoxes};
 use crate::boxes;
+use crate::walk::Mode;
 use crate::walk::Tally;
 use sphere::plane::Plane;
 
@@ -46,4 +48,25 @@ pub(crate) fn looked_before(boxes: &[i32], plane: Plane, reach: usize) -> u32
         count += looked_in(boxes, plane, r, reach);
     }
     count
+}
+
+// By the mode: whether it counts, and whether it asks the boxes.
+pub(crate) fn is_counted(mode: Mode) -> bool
+    ensures { λ r. ⌜ r ≡ isCounted mode ⌝ }
+{
+    match mode {
+        Mode::Plain => false,
+        Mode::Boxed => false,
+        Mode::Counted => true,
+    }
+}
+
+pub(crate) fn asks_boxes(mode: Mode) -> bool
+    ensures { λ r. ⌜ r ≡ asksBoxes mode ⌝ }
+{
+    match mode {
+        Mode::Plain => false,
+        Mode::Boxed => true,
+        Mode::Counted => true,
+    }
 }

@@ -20,6 +20,8 @@ use crate::arc::arc_between;
 use crate::border::stops_at;
 use crate::border::tally_arc;
 use crate::border::tally_held;
+use crate::looked::asks_boxes;
+use crate::looked::is_counted;
 use crate::looked::looked_before;
 use crate::looked::reach_of;
 use crate::scan::Near;
@@ -217,6 +219,7 @@ pub enum Mode {
     Counted,
 }
 
+// With one call of tally_edges, which the compiler then takes in.
 pub fn search_edges(
     grid: Grid,
     vertices: &[i32],
@@ -231,9 +234,8 @@ pub fn search_edges(
         × (r .looked ≡ lookedIn mode (lookedFrom (now (vertices .entry)) known query 0
         (vertexCount (now (vertices .entry))))) ⌝ }
 {
-    match mode {
-        Mode::Plain => uncounted(tally_edges(grid, vertices, boxes, known, query, false)),
-        Mode::Boxed => uncounted(tally_edges(grid, vertices, boxes, known, query, true)),
-        Mode::Counted => count_edges(grid, vertices, boxes, known, query),
+    if is_counted(mode) {
+        return count_edges(grid, vertices, boxes, known, query);
     }
+    uncounted(tally_edges(grid, vertices, boxes, known, query, asks_boxes(mode)))
 }

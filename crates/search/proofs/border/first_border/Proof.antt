@@ -27,9 +27,11 @@ loop-holds : tie.Need-loop-holds Inv-loop μ-loop
 loop-holds c =
     let most = reference (c .pre .aimed) .accepted .listed .most in
     let none : ℕ = 0 in
-    let all = length-replicate 4096 none in
-    let clear = settled-start (omega (arith, most, all)) (λ j h. getD-replicate 4096 j 0 0 (omega (arith, h, most))) in
-    (omega arith, all, clear)
+    let all = length-replicate 4096 none in (
+      omega arith,
+      all,
+      settled-start (omega (arith, most, all)) (λ j h. getD-replicate 4096 j 0 0 (omega (arith, h, most))),
+    )
 
 next-held-requires : tie.Need-next-held-requires Inv-loop μ-loop
 next-held-requires c κs = (c .before .before .pre, c .loop-test .taken)

@@ -3,7 +3,7 @@ use mathlib.Core.Path.{_≡_, refl, sym, _∙_}
 use mathlib.Core.Bool.{Bool, true, false, true≢false}
 use mathlib.Core.List.{List}
 use native.Mathlib.Omega.{arith}
-use borrow.Author.Tests.{ltb-true, ltb-false}
+use borrow.Author.Tests.{ltb-true, ltb-false, not-true, not-false}
 use Prim.Native.Nat.{ℕ, _+_, _-_, _≤_, _<_}
 use lib.Dec.{ltb}
 use lib.IntN.{ℤ}
@@ -13,7 +13,6 @@ use Rattle.polygon.specs.Border.{isCoincident}
 use Rattle.polygon.specs.Verdict.{isHeldBy}
 use Rattle.polygon.proofs.Laws.Checks.{gridded-fine}
 use Rattle.polygon.proofs.Laws.Edges.{end-within}
-use Rattle.polygon.proofs.Laws.Off.{counted-one, counted-none}
 use Rattle.search.specs.Border.{NextHeld, NextOther}
 use Rattle.search.proofs.Laws.Arc.{reference}
 use Rattle.search.proofs.border.next_other.Statement.{statement}
@@ -112,8 +111,8 @@ module _ (c : tie.After-next-held Inv-loop μ-loop) where
 returns : tie.Need-returns Inv-loop μ-loop
 returns c = ended (here (c .before)) (c .if1 .taken)
 
-coincident-requires : tie.Need-coincident-requires Inv-loop μ-loop
-coincident-requires c κs =
+joins-requires : tie.Need-joins-requires Inv-loop μ-loop
+joins-requires c κs =
     let n = c .before in
     let p = s n .pre in
     let grid = gridded-fine (s n .args .arc .plane .grid) (reference (p .0 .aimed) .accepted .gridded) in (
@@ -124,7 +123,7 @@ coincident-requires c κs =
     )
 
 -- What the test says of it.
-module _ (c : tie.After-coincident Inv-loop μ-loop) where
+module _ (c : tie.After-joins Inv-loop μ-loop) where
   abbrev next : tie.After-next-held Inv-loop μ-loop
   next = c .before .before
 
@@ -149,7 +148,7 @@ returns-2 c =
       within = here n .within;
       passed = here n .each;
       held = n .next-held .ensures .held;
-      other = λ h. own t (counted-none _ (t .coincident .ensures) (c .if2 .taken));
+      other = λ h. own t (sym (t .joins .ensures) ∙ not-true _ (c .if2 .taken));
     }
 
 add-i-2 : tie.Need-add-i-2 Inv-loop μ-loop
@@ -165,7 +164,7 @@ loop-less c =
 loop-again : tie.Need-loop-again Inv-loop μ-loop
 loop-again c =
     let t = c .before in
-    step (here (next t)) (more t) (own t (counted-one _ (t .coincident .ensures) (c .if2 .left)))
+    step (here (next t)) (more t) (own t (sym (t .joins .ensures) ∙ not-false _ (c .if2 .left)))
 
 returns-3 : tie.Need-returns-3 Inv-loop μ-loop
 returns-3 c = ended (c .before .loop .inv) (c .loop-test .left)
@@ -182,7 +181,7 @@ next-other-spec =
     loop-holds
     next-held-requires
     returns
-    coincident-requires
+    joins-requires
     returns-2
     add-i-2
     loop-less
