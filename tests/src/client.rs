@@ -186,8 +186,8 @@ fn feed_place_is_not_cut() {
 }
 
 /// The header promises that a call needs less than 64 KiB of stack, a long feed less than 128: measured for each
-/// topic, inside, on the boundary, and from a second point; on the fine grid with turns that floats leave to exact
-/// work, and with numbers so large that floats decide. 640 queries to 4,096 sides are enough for an index.
+/// topic, inside, on the boundary, on corridors, and from a second point; on the fine grid with turns that floats leave
+/// to exact work, and with numbers so large that floats decide. 640 queries to 4,096 sides are enough for an index.
 #[test]
 fn stack() {
     let folder = Folder::new("stack");
@@ -195,7 +195,13 @@ fn stack() {
     let vertices: Vec<Point> = (0..4096).map(|i| [(i % 2) * 7, 1, i + 1]).collect();
     let plain = Sheet::new([500, 1, 3], &vertices);
     let pair = plain.clone().with_second([501, 1, 3]);
-    let cases = [(&plain, 1, [3, 2, 1]), (&plain, 3, vertices[4095]), (&pair, 1, [-500, -1, -3])];
+    // From one vertex out and back, six times: the query there is on corridors before it is on a border side.
+    let hub = [40, 3, 50];
+    let spokes = plain.vertices.iter().enumerate();
+    let spokes: Vec<Point> = spokes.map(|(i, &end)| if i < 12 && i % 2 == 0 { hub } else { end }).collect();
+    let hubbed = Sheet::new([500, 1, 3], &spokes);
+    let cases =
+        [(&plain, 1, [3, 2, 1]), (&plain, 3, vertices[4095]), (&pair, 1, [-500, -1, -3]), (&hubbed, 3, hub)];
     let mut most = BTreeMap::new();
     for (grid, factor) in [(Grid::Coarse, 1), (Grid::Fine, 1), (Grid::Fine, 16_000)] {
         for ((sheet, number, query), n) in cases.iter().flat_map(|case| [(case, 639), (case, 640)]) {
@@ -215,5 +221,5 @@ fn stack() {
     println!("stack, bytes, those of starting a thread among them: {}", topics.join("; "));
     let long = most.remove("long feed").expect("topic");
     assert!(long < 128 << 10, "the promise");
-    assert!(most.len() == 11 && most.values().all(|needed| *needed <= 60_000), "the promise, and some room");
+    assert!(most.len() == 11 && most.values().all(|needed| *needed < 64 << 10), "the promise");
 }
