@@ -4,6 +4,7 @@ pub mod Covers
 pub mod Coincident
 pub mod Halved
 pub mod Rays
+pub mod Shift
 pub mod Pushed
 pub mod Split
 pub mod Index

@@ -39,14 +39,14 @@ pub record Indexed (vs : List ℤ) (X : Point) (rays : List ℤ) (spans list : L
   pub ends : (k : ℕ) → k < nodes → getD spans (k * 2 + 1) 0 ≤ top
   pub each : (k : ℕ) → k < nodes → Node vs X rays spans list k
 
--- The whole index: its nodes, and the two rays by which a query's quarter is told.
+-- The whole index: its nodes, and the two rays by which a query is looked up.
 pub record IndexOn (vs : List ℤ) (X : Point) (rays : List ℤ) (spans list : List ℕ) (index : Index) : Type 0 where
   pub indexed : Indexed vs X rays spans list (index .nodes) (index .top)
   pub low : Within coarse (index .lo)
   pub high : Within coarse (index .hi)
 
 abbrev pub noIndex : Index
-noIndex = record { nodes = 0; top = 0; one = 0; two = 0; three = 0; lo = origin; hi = origin }
+noIndex = record { nodes = 0; top = 0; lo = origin; hi = origin }
 
 -- The rays of the first nodes are there, and within the grid.
 pub record Rayed (limit : ℕ) (rays : List ℤ) (nodes : ℕ) : Type 0 where

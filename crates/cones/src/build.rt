@@ -1,5 +1,5 @@
 // The index of a polygon, from four cones round the reference point. Here, in order: Frame, magnitude, frame_of,
-// across, ahead, root (the four rays); grow_root; Index, build, no_index. The rays lie in a plane of two axes, turned
+// across, ahead, root (the four rays); grow_root, grow_roots; Index, build, no_index. The rays lie in a plane of two axes, turned
 // off them: queries are often in such a plane with the reference point, and none is certified on a ray.
 ghost use mathlib.Core.Path.{_≡_};
 ghost use Prim.Native.Nat.{_≤_, _<_};
@@ -9,6 +9,7 @@ ghost use Rattle.answer.specs.declared.Check.the-variants.{Passed};
 ghost use Rattle.polygon.specs.Checks.{acceptCheck};
 ghost use Rattle.polygon.specs.Vertices.{vertexCount};
 ghost use Rattle.cones.specs.Table.{Indexed, IndexOn, noIndex};
+use crate::buckets::fill;
 use crate::grow::grow;
 use crate::grow::rest;
 use crate::lists::first_list;
@@ -135,19 +136,8 @@ fn grow_root(
     grow(grid, vertices, known, rays, spans, list, stack, cone, size)
 }
 
-// All nodes, and the end of their lists; and hints, how many of them lie before each of the four rays but the first,
-// and the first two rays.
-pub struct Index {
-    pub nodes: usize,
-    pub top: usize,
-    pub one: usize,
-    pub two: usize,
-    pub three: usize,
-    pub lo: Point,
-    pub hi: Point,
-}
-
-pub fn build(
+// The nodes of all four cones.
+fn grow_roots(
     grid: Grid,
     vertices: &[i32],
     known: Point,
@@ -155,70 +145,66 @@ pub fn build(
     spans: &mut [u16],
     list: &mut [u16],
     stack: &mut [u16],
+    frame: Frame,
+) -> Size
+    requires { ⌜ (acceptCheck (limitOf grid) (now vertices) known ≡ Passed)
+        × (vertexCount (now vertices) ≤ length (now stack)) ⌝ }
+    ensures { λ s. ⌜ Indexed (now (vertices .entry)) known (now (rays .exit)) (now (spans .exit)) (now (list .exit))
+        (s .nodes) (s .top) ⌝ }
+{
+    let mut size = Size { nodes: 0, top: 0 };
+    for r in 0..4 {
+        size = grow_root(
+            grid,
+            vertices,
+            known,
+            rays,
+            spans,
+            list,
+            stack,
+            frame,
+            r,
+            size,
+        );
+    }
+    size
+}
+
+// All nodes, and the end of their lists; and the first two rays, by which queries are looked up.
+pub struct Index {
+    pub nodes: usize,
+    pub top: usize,
+    pub lo: Point,
+    pub hi: Point,
+}
+
+// The index, and the buckets, which are 0 before.
+pub fn build(
+    grid: Grid,
+    vertices: &[i32],
+    known: Point,
+    rays: &mut [i32],
+    buckets: &mut [u16],
+    spans: &mut [u16],
+    list: &mut [u16],
+    stack: &mut [u16],
 ) -> Index
     requires { ⌜ (acceptCheck (limitOf grid) (now vertices) known ≡ Passed)
         × (vertexCount (now vertices) ≤ length (now stack)) ⌝ }
+    requires { ⌜ (length (now rays) < 65536) × (1025 ≤ length (now buckets)) ⌝ }
     ensures { λ r. ⌜ IndexOn (now (vertices .entry)) known (now (rays .exit)) (now (spans .exit))
         (now (list .exit)) r ⌝ }
 {
     let frame = frame_of(known);
-    let none = Size { nodes: 0, top: 0 };
-    let one = grow_root(
-        grid,
-        vertices,
-        known,
-        rays,
-        spans,
-        list,
-        stack,
-        frame,
-        0,
-        none,
-    );
-    let two = grow_root(
-        grid,
-        vertices,
-        known,
-        rays,
-        spans,
-        list,
-        stack,
-        frame,
-        1,
-        one,
-    );
-    let three = grow_root(
-        grid,
-        vertices,
-        known,
-        rays,
-        spans,
-        list,
-        stack,
-        frame,
-        2,
-        two,
-    );
-    let all = grow_root(
-        grid,
-        vertices,
-        known,
-        rays,
-        spans,
-        list,
-        stack,
-        frame,
-        3,
-        three,
-    );
+    let size = grow_roots(grid, vertices, known, rays, spans, list, stack, frame);
+    let lo = root(frame, 0);
+    let hi = root(frame, 1);
+    fill(rays, size.nodes, lo, hi, buckets);
     Index {
-        nodes: all.nodes,
-        top: all.top,
-        one: one.nodes,
-        two: two.nodes,
-        three: three.nodes,
-        lo: root(frame, 0),
-        hi: root(frame, 1),
+        nodes: size.nodes,
+        top: size.top,
+        lo: lo,
+        hi: hi,
     }
 }
 
@@ -230,9 +216,6 @@ pub fn no_index() -> Index
     Index {
         nodes: 0,
         top: 0,
-        one: 0,
-        two: 0,
-        three: 0,
         lo: none,
         hi: none,
     }

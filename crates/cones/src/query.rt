@@ -2,7 +2,7 @@
 // tally_edges.
 ghost use mathlib.Core.Path.{_≡_};
 ghost use Prim.Native.Nat.{_≤_, _<_};
-ghost use Rattle.sphere.specs.Point.{limitOf, Within};
+ghost use Rattle.sphere.specs.Point.{coarse, limitOf, Within};
 ghost use Rattle.sphere.specs.Plane.{Sound};
 ghost use Rattle.answer.specs.declared.Check.the-variants.{Passed};
 ghost use Rattle.polygon.specs.Checks.{acceptCheck};
@@ -10,6 +10,7 @@ ghost use Rattle.polygon.specs.Vertices.{vertexCount};
 ghost use Rattle.search.specs.Boxes.{Boxed};
 ghost use Rattle.search.specs.Walk.{tallyFrom};
 ghost use Rattle.cones.specs.Table.{isBetween, Rayed, IndexOn};
+use crate::buckets::query_bucket;
 use crate::build::Index;
 use crate::lists::wide;
 use crate::walk::walk_list;
@@ -50,24 +51,19 @@ fn locate(plane: Plane, rays: &[i32], nodes: usize, from: usize, to: usize) -> u
     low
 }
 
-// The same of all nodes, by the quarter that the query is in.
-fn guess(plane: Plane, rays: &[i32], index: Index) -> usize
+// The same of all nodes, by the bucket that the query is in.
+fn guess(plane: Plane, rays: &[i32], buckets: &[u16], index: Index) -> usize
     requires { ⌜ Sound plane × Rayed (limitOf (plane .grid)) (now rays) (index .nodes) ⌝ }
-    requires { ⌜ Within (limitOf (plane .grid)) (index .lo) × Within (limitOf (plane .grid)) (index .hi) ⌝ }
+    requires { ⌜ Within coarse (index .lo) × Within coarse (index .hi) ⌝ }
     ensures { λ r. ⌜ r ≤ index .nodes ⌝ }
 {
-    let first = side_of(plane, index.lo);
-    let second = side_of(plane, index.hi);
-    if first < 0 {
-        if second > 0 {
-            return locate(plane, rays, index.nodes, 0, index.one);
-        }
-        return locate(plane, rays, index.nodes, index.one, index.two);
+    let c = query_bucket(plane, index.lo, index.hi);
+    if c + 1 >= buckets.len() {
+        return 0;
     }
-    if second < 0 {
-        return locate(plane, rays, index.nodes, index.two, index.three);
-    }
-    locate(plane, rays, index.nodes, index.three, index.nodes)
+    let from = wide(buckets[c]);
+    let to = wide(buckets[c + 1]);
+    locate(plane, rays, index.nodes, from, to)
 }
 
 // The query is strictly between the two rays.
@@ -87,6 +83,7 @@ pub fn tally_edges(
     vertices: &[i32],
     boxes: &[i32],
     rays: &[i32],
+    buckets: &[u16],
     spans: &[u16],
     list: &[u16],
     index: Index,
@@ -100,7 +97,7 @@ pub fn tally_edges(
     ensures { λ r. ⌜ r ≡ tallyFrom (now (vertices .entry)) known query 0 (vertexCount (now (vertices .entry))) ⌝ }
 {
     let arc = arc_between(grid, known, query, true);
-    let k = guess(arc.plane, rays, index);
+    let k = guess(arc.plane, rays, buckets, index);
     if k > 0 {
         let lo = vertex_at(rays, (k - 1) * 2);
         let hi = vertex_at(rays, (k - 1) * 2 + 1);

@@ -102,6 +102,7 @@ fn judge_one(
     vertices: &[i32],
     boxes: &[i32],
     rays: &[i32],
+    buckets: &[u16],
     spans: &[u16],
     list: &[u16],
     index: Index,
@@ -127,6 +128,7 @@ fn judge_one(
         vertices,
         boxes,
         rays,
+        buckets,
         spans,
         list,
         index,
@@ -144,6 +146,7 @@ fn judge_all(
     vertices: &[i32],
     boxes: &[i32],
     rays: &[i32],
+    buckets: &[u16],
     spans: &[u16],
     list: &[u16],
     index: Index,
@@ -166,6 +169,7 @@ fn judge_all(
             vertices,
             boxes,
             rays,
+            buckets,
             spans,
             list,
             index,
@@ -195,6 +199,7 @@ fn judge_by_index(
         (feedBytes (limitOf grid) (now (vertices .entry)) known second (now (queries .entry))) ⌝ }
 {
     let mut rays = [0i32; 3840];
+    let mut buckets = [0u16; 1025];
     let mut spans = [0u16; 1280];
     let mut list = [0u16; 11264];
     let mut stack = [0u16; 8192];
@@ -203,6 +208,7 @@ fn judge_by_index(
         vertices,
         known,
         &mut rays,
+        &mut buckets,
         &mut spans,
         &mut list,
         &mut stack,
@@ -212,6 +218,7 @@ fn judge_by_index(
         vertices,
         boxes,
         &rays,
+        &buckets,
         &spans,
         &list,
         index,
@@ -265,6 +272,7 @@ pub fn judge_each(
         vertices,
         boxes,
         boxes,
+        &none,
         &none,
         &none,
         no_index(),

@@ -1,6 +1,6 @@
 -- `judge_all` meets its contract: before query i the first i results are stored.
 use mathlib.Core.Path.{_≡_, refl, _∙_}
-use Prim.Native.Nat.{_-_, _≤_}
+use Prim.Native.Nat.{_-_, _/_, _≤_, _<_}
 use native.Mathlib.Omega.{arith}
 use borrow.Author.Needs.{needs}
 use lib.ListN.{length}
@@ -12,12 +12,12 @@ use Rattle.feed.proofs.judge_all.Statement.{statement}
 use Rattle.feed.proofs.judge_all.Tie as tie
 
 abbrev Inv-loop : tie.InvT-loop
-Inv-loop grid vertices boxes rays spans list index known second queries results₀ n i₀ results i =
+Inv-loop grid vertices boxes rays buckets spans list index known second queries results₀ n i₀ results i =
     (i ≤ n) × (length results ≡ length results₀)
     × (results ≡ sets results₀ 0 (resultsBytes (resultOf (limitOf grid) vertices known second queries) i))
 
 abbrev μ-loop : tie.MeasureT-loop
-μ-loop grid vertices boxes rays spans list index known second queries results₀ n i₀ results i = n - i
+μ-loop grid vertices boxes rays buckets spans list index known second queries results₀ n i₀ results i = n - i
 
 loop-holds : tie.Need-loop-holds Inv-loop μ-loop
 unfolding resultsBytes
@@ -27,11 +27,18 @@ judge-one-requires : tie.Need-judge-one-requires Inv-loop μ-loop
 judge-one-requires c κs =
     let t = c .before in
     let l = t .before in
-    let s = l .before .before .before .before .before in
+    let s = l .before .before .before .before .before .before in
     (s .pre .0, (s .pre .1 .0, (omega (arith, t .loop-test .taken), omega (arith, l .loop .inv .1, s .pre .1 .1))))
 
+-- So few queries that their count has a successor.
+short : (l : tie.At-loop Inv-loop μ-loop) →
+    length (l .before .before .before .before .before .before .args .queries .now) / 12 < 9223372036854775808
+short l = search needs
+
 add-i : tie.Need-add-i Inv-loop μ-loop
-add-i c = search needs
+add-i c =
+    let t = c .before .before .before .before in
+    record { fits = omega (arith, t .loop-test .taken, short (t .before)) }
 
 loop-less : tie.Need-loop-less Inv-loop μ-loop
 loop-less c = search needs
@@ -40,10 +47,10 @@ loop-again : tie.Need-loop-again Inv-loop μ-loop
 loop-again c =
     let one = c .before .before .judge-one in
     let l = c .before .before .before .before .before .loop in
-    let s = c .before .before .before .before .before .before .before .before .before .before .args in
+    let s = c .before .before .before .before .before .before .before .before .before .before .before .args in
     let result = resultOf (limitOf (s .grid)) (s .vertices .now) (s .known) (s .second) (s .queries .now) in
     let more = results-more result (λ i. resultBytes-length _) (s .results .now) (l .i) in
-    (omega arith, one .kept .1 .1 .1 .1 .1 .1 .1 .1 .1 .1 .1 .0 ∙ l .inv .1, rw (l .inv .2) at (one .ensures) ∙ more)
+    (omega arith, one .kept .1 .1 .1 .1 .1 .1 .1 .1 .1 .1 .1 .1 .0 ∙ l .inv .1, rw (l .inv .2) at (one .ensures) ∙ more)
 
 same-length : tie.Need-same-length Inv-loop μ-loop
 same-length c = c .before .loop .inv .1
@@ -51,7 +58,7 @@ same-length c = c .before .loop .inv .1
 returns : tie.Need-returns Inv-loop μ-loop
 unfolding feedBytes
 returns c =
-    let s = c .before .before .before .before .before .before .args in
+    let s = c .before .before .before .before .before .before .before .args in
     let e : c .before .loop .i ≡ queryCount (s .queries .now) = omega arith in
     rw (← e) (c .before .loop .inv .2)
 

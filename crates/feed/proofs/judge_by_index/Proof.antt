@@ -27,11 +27,14 @@ slice-aggregate-build-3 c = search needs
 slice-aggregate-build-4 : tie.Need-slice-aggregate-build-4
 slice-aggregate-build-4 c = search needs
 
+slice-aggregate-build-5 : tie.Need-slice-aggregate-build-5
+slice-aggregate-build-5 c = search needs
+
 -- The stack has room for all edges.
 build-requires : tie.Need-build-requires
 build-requires c κs =
-    let s = c .before .before .before .before .before .before in
-    (accepted s, le-trans (accept-passed (accepted s) .listed .most) (search needs))
+    let s = c .before .before .before .before .before .before .before in
+    ((accepted s, le-trans (accept-passed (accepted s) .listed .most) (search needs)), (search needs, search needs))
 
 slice-aggregate-judge-all : tie.Need-slice-aggregate-judge-all
 slice-aggregate-judge-all c = search needs
@@ -42,10 +45,13 @@ slice-aggregate-judge-all-2 c = search needs
 slice-aggregate-judge-all-3 : tie.Need-slice-aggregate-judge-all-3
 slice-aggregate-judge-all-3 c = search needs
 
+slice-aggregate-judge-all-4 : tie.Need-slice-aggregate-judge-all-4
+slice-aggregate-judge-all-4 c = search needs
+
 judge-all-requires : tie.Need-judge-all-requires
 judge-all-requires c κs =
-    let b = c .before .before .before .before .before .before .before .before in
-    let s = b .before .before .before .before .before .before .before in
+    let b = c .before .before .before .before .before .before .before .before .before .before in
+    let s = b .before .before .before .before .before .before .before .before in
     (s .pre .0, (b .build .ensures, s .pre .1))
 
 same-length : tie.Need-same-length
@@ -62,10 +68,12 @@ judge-by-index-spec =
     slice-aggregate-build-2
     slice-aggregate-build-3
     slice-aggregate-build-4
+    slice-aggregate-build-5
     build-requires
     slice-aggregate-judge-all
     slice-aggregate-judge-all-2
     slice-aggregate-judge-all-3
+    slice-aggregate-judge-all-4
     judge-all-requires
     same-length
     returns)

@@ -20,12 +20,12 @@ use Rattle.cones.proofs.query.tally_edges.Statement.{statement}
 use Rattle.cones.proofs.query.tally_edges.Tie as tie
 
 arc-between-requires : tie.Need-arc-between-requires
-arc-between-requires c κs = let s = c .before .before in (accept-passed (s .pre .0 .0) .known, s .pre .0 .1)
+arc-between-requires c κs = let s = c .before .before .before in (accept-passed (s .pre .0 .0) .known, s .pre .0 .1)
 
 -- The arc.
 module _ (c : tie.After-arc-between) where
   abbrev start : tie.Start
-  start = c .before .before .before
+  start = c .before .before .before .before
 
   aimed : AcceptedArc (start .args .vertices .now) (c .arc-between .result)
   aimed =
@@ -37,7 +37,7 @@ guess-requires c κs =
     let s = start c in
     let g = c .arc-between .result .plane .grid in (
       (aimed c .sound .sound, index-rayed g (s .pre .1 .indexed)),
-      (coarse→grid g (s .pre .1 .low), coarse→grid g (s .pre .1 .high)),
+      (s .pre .1 .low, s .pre .1 .high),
     )
 
 -- The node is there.

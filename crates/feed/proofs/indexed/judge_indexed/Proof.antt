@@ -51,7 +51,7 @@ returns-2 c = c .judge-boxed2 .ensures .0
 -- The query is on the grid.
 module _ (c : tie.Else2) where
   abbrev start : tie.Start
-  start = c .before .before .before .before .before .before
+  start = c .before .before .before .before .before .before .before
 
   gridded : isOffGrid (limitOf (start .args .grid)) (start .args .query) ≡ false
   gridded = sym (c .before .is-off-grid .ensures) ∙ c .if2 .left
