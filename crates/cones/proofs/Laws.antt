@@ -5,6 +5,7 @@ pub mod Coincident
 pub mod Halved
 pub mod Rays
 pub mod Shift
+pub mod Implied
 pub mod Pushed
 pub mod Split
 pub mod Index

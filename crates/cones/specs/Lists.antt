@@ -1,5 +1,5 @@
--- Lists of edges, and parts of them: for the code alone. Defined, in order: isClear, isClearOf (an edge that lies on
--- the positive side of a plane); Entries; Kept (a list without some entries), Framed, Filtered, Sifted.
+-- Lists of edges, and parts of them: for the code alone. Defined, in order: Implies; isClear, isClearOf (an edge that
+-- lies on the positive side of a plane); Entries; Kept (a list without some entries), Framed, Filtered, Sifted.
 use mathlib.Core.Path.{_≡_}
 use mathlib.Core.Bool.{Bool, true, _&&_}
 use mathlib.Core.List.{List}
@@ -11,6 +11,10 @@ use Rattle.sphere.specs.declared.point.Point.{Point}
 use Rattle.sphere.specs.Orientation.{dotOf}
 use Rattle.polygon.specs.Vertices.{startOf, endOf}
 use Rattle.cones.specs.declared.lists.Part.{Part}
+
+-- If the first test holds, so does the second.
+pub record Implies (a b : Bool) : Type 0 where
+  pub holds : a ≡ true → b ≡ true
 
 -- Both ends of an edge are on a plane or on its positive side: by their sides, and by the plane's normal N.
 abbrev pub isClear : Sign → Sign → Bool

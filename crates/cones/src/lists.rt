@@ -1,19 +1,24 @@
 // Parts of a list of edges: those that matter to queries on the negative side of a plane through the reference point.
-// Here, in order: wide; is_clear, above, Clear, clear_at; Tail, filter; Part, sift; first_list.
+// Here, in order: wide; is_clear, above, Clear, sign_if, sure_side, clear_at; Tail, filter; Part, sift; first_list.
 ghost use mathlib.Core.Path.{_≡_};
+ghost use mathlib.Core.Bool.{cond};
 ghost use Prim.Native.Nat.{_+_, _-_, _≤_, _<_};
+ghost use lib.IntN.{pos, negsuc};
 ghost use lib.ListN.{length};
-ghost use Rattle.integers.specs.Sign.{signOf};
+ghost use Rattle.integers.specs.Sign.{signOf, isAtLeastZero};
 ghost use Rattle.sphere.specs.Point.{coarse, limitOf, Within};
+ghost use Rattle.sphere.specs.Orientation.{dotOf};
 ghost use Rattle.sphere.specs.Plane.{Sound};
 ghost use Rattle.answer.specs.declared.Check.the-variants.{Passed};
 ghost use Rattle.polygon.specs.Accepted.{Gridded};
 ghost use Rattle.polygon.specs.Checks.{acceptCheck};
 ghost use Rattle.polygon.specs.Vertices.{vertexCount};
 ghost use Rattle.cones.specs.Cones.{IdleIn, Complete};
-ghost use Rattle.cones.specs.Lists.{isClear, isClearOf, Entries, Filtered, Sifted};
+ghost use Rattle.cones.specs.Lists.{Implies, isClear, isClearOf, Entries, Filtered, Sifted};
 use polygon::vertices::end_of;
 use polygon::vertices::vertex_at;
+use sphere::approximate::float_dot;
+use sphere::approximate::is_surely;
 use sphere::plane::Plane;
 use sphere::plane::plane_through;
 use sphere::plane::side_of;
@@ -49,18 +54,42 @@ fn above(s: i64, t: i64) -> usize
     0
 }
 
-// Of one edge: neither end is strictly on the negative side; and a hint, whether one is strictly on the positive side.
+// Of one edge: neither end is strictly on the negative side, for sure; and a hint, whether one is strictly on the
+// positive side.
 pub struct Clear {
     pub clear: bool,
     pub above: usize,
 }
 
+// 1, or -1 where it is not sure.
+fn sign_if(sure: bool) -> i64
+    ensures { λ r. ⌜ r ≡ cond «sure» (pos 1) (negsuc 0) ⌝ }
+{
+    if sure {
+        return 1;
+    }
+    -1
+}
+
+// A number that is negative unless the point is on the plane or on its positive side. On the fine grid by floats alone,
+// and negative where they are not sure: one edge more on a list does no harm.
+fn sure_side(plane: Plane, c: Point) -> i64
+    requires { ⌜ Sound plane × Within (limitOf (plane .grid)) c ⌝ }
+    ensures { λ r. ⌜ Implies (isAtLeastZero (signOf r)) (isAtLeastZero (signOf (dotOf (plane .normal) c))) ⌝ }
+{
+    let grid = plane.grid;
+    match grid {
+        Grid::Coarse => side_of(plane, c),
+        Grid::Fine => sign_if(is_surely(float_dot(plane.floats, c), true)),
+    }
+}
+
 fn clear_at(vertices: &[i32], plane: Plane, i: usize) -> Clear
     requires { ⌜ Gridded (limitOf (plane .grid)) (now vertices) × Sound plane × (i < vertexCount (now vertices)) ⌝ }
-    ensures { λ r. ⌜ (r .clear ≡ isClearOf (now (vertices .entry)) (plane .normal) i) × (r .above ≤ 1) ⌝ }
+    ensures { λ r. ⌜ Implies (r .clear) (isClearOf (now (vertices .entry)) (plane .normal) i) × (r .above ≤ 1) ⌝ }
 {
-    let s = side_of(plane, vertex_at(vertices, i));
-    let t = side_of(plane, end_of(vertices, i));
+    let s = sure_side(plane, vertex_at(vertices, i));
+    let t = sure_side(plane, end_of(vertices, i));
     Clear {
         clear: is_clear(s, t),
         above: above(s, t),

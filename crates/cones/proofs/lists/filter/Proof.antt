@@ -1,5 +1,5 @@
 -- `filter` meets its contract: what is kept of the entries passed stands behind `to`, and the entries before `to` stay.
-use mathlib.Core.Path.{_≡_, refl, sym, _∙_, ap, subst}
+use mathlib.Core.Path.{_≡_, refl, _∙_, subst}
 use mathlib.Core.Bool.{Bool, true, false, not}
 use mathlib.Core.List.{List}
 use mathlib.Core.Logic.{⊎-elim}
@@ -10,7 +10,7 @@ use borrow.Author.Needs.{needs}
 use borrow.Author.Tests.{not-false}
 use lib.ListN.{length, getD, set, length-set}
 use lib.Seq.{getD-set-same, getD-set-other}
-use Rattle.cones.specs.Lists.{isClearOf, Kept, begin, drop, copy, Framed}
+use Rattle.cones.specs.Lists.{Implies, isClearOf, Kept, begin, drop, copy, Framed}
 use Rattle.cones.proofs.Laws.Covers.{kept-same}
 use Rattle.cones.proofs.lists.filter.Statement.{statement}
 use Rattle.cones.proofs.lists.filter.Tie as tie
@@ -122,11 +122,12 @@ module _ (c : tie.After-clear-at Inv-loop μ-loop) where
   small = c .clear-at .ensures .1
 
   clear : let v = turn .before .before .before .args in
-      c .clear-at .result .clear
-      ≡ isClearOf (v .vertices .now) (v .plane .normal) (getD (turn .before .loop .list) (turn .before .loop .e) 0)
+      Implies (c .clear-at .result .clear)
+      (isClearOf (v .vertices .now) (v .plane .normal) (getD (turn .before .loop .list) (turn .before .loop .e) 0))
   clear =
       let v = turn .before .before .before .args in
-      c .clear-at .ensures .0 ∙ ap (isClearOf (v .vertices .now) (v .plane .normal)) (c .before .wide .ensures)
+      subst (λ j. Implies (c .clear-at .result .clear) (isClearOf (v .vertices .now) (v .plane .normal) j))
+      (c .before .wide .ensures) (c .clear-at .ensures .0)
 
 add-end : tie.Need-add-end Inv-loop μ-loop
 add-end c = omega (arith, fits (turn (c .before .before)))
@@ -154,7 +155,7 @@ loop-again c =
     let h = t .loop-test .taken in
     ⊎-elim
     (λ w. rw (w .1) (copied inv h (fits t) _ (small k)))
-    (λ w. rw (w .1) (dropped inv h (fits t) _ (small k) (sym (clear k) ∙ not-false _ (w .0 .left))))
+    (λ w. rw (w .1) (dropped inv h (fits t) _ (small k) (clear k .holds (not-false _ (w .0 .left)))))
     (c .before .if1 .came)
 
 same-length : tie.Need-same-length Inv-loop μ-loop

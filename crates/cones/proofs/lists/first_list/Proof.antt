@@ -23,6 +23,7 @@ use Rattle.cones.specs.Lists.{isClearOf}
 use Rattle.cones.proofs.Laws.Covers.{covers-map, covers-same}
 use Rattle.cones.proofs.Laws.Halved.{idle-after, idle-before}
 use Rattle.cones.proofs.Laws.Rays.{coarse→grid}
+use Rattle.cones.proofs.Laws.Implied.{implied-or}
 use Rattle.cones.proofs.lists.first_list.Statement.{statement}
 use Rattle.cones.proofs.lists.first_list.Tie as tie
 
@@ -151,7 +152,7 @@ loop-again c =
     ⊎-elim
     (λ w. rw (w .1) (taken inv (more t) (fits t)))
     (λ w. rw (w .1) (passed inv (more t) (fits t)
-    (rw (← a .clear-at .ensures .0, ← b .clear-at2 .ensures .0) (not-false _ (w .0 .left)))))
+    (implied-or (a .clear-at .ensures .0) (b .clear-at2 .ensures .0) .holds (not-false _ (w .0 .left)))))
     (c .if1 .came)
 
 same-length : tie.Need-same-length Inv-loop μ-loop
