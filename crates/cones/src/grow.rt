@@ -59,7 +59,7 @@ fn halve(grid: Grid, known: Point, lo: Point, mid: Point, hi: Point) -> Half
     Half::Whole
 }
 
-// A list of up to 8 edges is short enough.
+// A list of up to 6 edges is short enough.
 fn may_halve(cone: Cone, room: usize) -> bool
     requires { ⌜ (cone .from ≤ cone .to) × (cone .to ≤ room) ⌝ }
     ensures { λ r. ⌜ Allows cone room r ⌝ }
@@ -71,7 +71,7 @@ fn may_halve(cone: Cone, room: usize) -> bool
     if cone.quota < 2 {
         return false;
     }
-    if len <= 8 {
+    if len <= 6 {
         return false;
     }
     if room - cone.to < len {
@@ -80,8 +80,9 @@ fn may_halve(cone: Cone, room: usize) -> bool
     true
 }
 
-// Both halves together have at most half as many edges again.
-fn is_worth(len: usize, kept: usize, other: usize) -> bool {
+// Both halves together have at most three quarters of the edges more. Of more than 2048 edges, at most half of them: the
+// lists of so many are short of room.
+fn is_worth(size: usize, len: usize, kept: usize, other: usize) -> bool {
     if len > 65535 {
         return false;
     }
@@ -91,7 +92,10 @@ fn is_worth(len: usize, kept: usize, other: usize) -> bool {
     if other > 65535 {
         return false;
     }
-    (kept + other) * 2 <= len * 3
+    if size > 6144 {
+        return (kept + other) * 2 <= len * 3;
+    }
+    (kept + other) * 4 <= len * 7
 }
 
 // The lower half's part of the nodes, by the edges of both; at least one for each.
@@ -165,7 +169,7 @@ fn lower(grid: Grid, vertices: &[i32], known: Point, stack: &mut [u16], cone: Co
     };
     let part = sift(vertices, plane_through(grid, known, mid), stack, from, to);
     let kept = part.to - part.from;
-    if !is_worth(to - from, kept, part.other) {
+    if !is_worth(vertices.len(), to - from, kept, part.other) {
         return Split::Whole;
     }
     let quota = share(cone.quota, kept, part.other);
