@@ -1,8 +1,9 @@
 -- `upper` meets its contract: what is sifted is complete for the upper half.
-use mathlib.Core.Path.{sym, subst}
+use mathlib.Core.Path.{_≡_, sym, subst}
 use native.Mathlib.Omega.{arith}
-use Rattle.sphere.specs.Point.{limitOf}
-use Rattle.sphere.proofs.Laws.Plane.{Made, plane-made}
+use Rattle.sphere.specs.Point.{limitOf, Within}
+use Rattle.sphere.specs.Plane.{Sound}
+use Rattle.sphere.proofs.Laws.Plane.{plane-made}
 use Rattle.polygon.specs.Accepted.{Gridded}
 use Rattle.polygon.proofs.Laws.Checks.{Reference, reference-accepted}
 use Rattle.cones.proofs.Laws.Covers.{entries}
@@ -21,24 +22,31 @@ plane-through-requires c κs =
     let ray = coarse→grid (s .args .grid) (s .pre .1 .0 .within) in
     let known = reference s .accepted .known in (search (ray, known), search (ray, known))
 
--- The plane of the ray that halves the cone, turned round.
+-- The plane of the ray that halves the cone: what is known of it whichever way round it is.
 module _ (p : tie.After-plane-through) where
   abbrev start : tie.Start
   start = p .before .before .before
 
-  made : Made (start .args .grid) (start .args .mid) (start .args .known) (p .plane-through .result)
-  made =
-      plane-made (start .args .grid) _ _ (coarse→grid (start .args .grid) (start .pre .1 .0 .within))
-      (reference start .accepted .known) (p .plane-through .ensures)
+  ray : Within (limitOf (start .args .grid)) (start .args .mid)
+  ray = coarse→grid (start .args .grid) (start .pre .1 .0 .within)
+
+  known : Within (limitOf (start .args .grid)) (start .args .known)
+  known = reference start .accepted .known
+
+  sound : Sound (p .plane-through .result)
+  sound = plane-made (start .args .grid) _ _ (search (ray, known)) (search (ray, known)) (p .plane-through .ensures) .sound
+
+  grid-is : p .plane-through .result .grid ≡ start .args .grid
+  grid-is =
+      plane-made (start .args .grid) _ _ (search (ray, known)) (search (ray, known)) (p .plane-through .ensures) .grid-is
 
 sift-requires : tie.Need-sift-requires
 sift-requires c κs =
     let p = c .before in
     let s = start p in (
       (
-        subst (λ g. Gridded (limitOf g) (s .args .vertices .now)) (sym (made p .grid-is))
-            (reference s .accepted .gridded),
-        made p .sound,
+        subst (λ g. Gridded (limitOf g) (s .args .vertices .now)) (sym (grid-is p)) (reference s .accepted .gridded),
+        sound p,
       ),
       (
         (s .pre .0 .1 .complete .some, s .pre .1 .1 .enough),
@@ -60,8 +68,9 @@ returns c =
     let p = sifted .before .before in
     let s = start p in
     let v = s .args in
+    let turned = plane-made (v .grid) (v .mid) (v .known) (ray p) (known p) (p .plane-through .ensures) .normal-is in
     let all = sifted-high (v .vertices .now) (v .known) (reference s .off-circle) (v .cone .lo) (v .mid) (v .cone .hi)
-    (s .pre .1 .0) _ f (s .pre .0 .1 .complete) (made p .normal-is) in (
+    (s .pre .1 .0) _ f (s .pre .0 .1 .complete) turned in (
       f .framed,
       record {
         on =
