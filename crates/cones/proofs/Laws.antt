@@ -9,3 +9,4 @@ pub mod Implied
 pub mod Pushed
 pub mod Split
 pub mod Index
+pub mod Near

@@ -1,6 +1,7 @@
 -- Cones about the reference point X, and lists of edges that are complete for the queries of a cone: for the code
 -- alone. A ray is a point, of which only the half plane from the line through X matters. Defined, in order: InCone;
--- Idle (an edge that a query does not notice), IdleIn; Covers, Complete (a list of edges); EarlierTell.
+-- Idle (an edge that a query does not notice), IdleIn; Covers, Complete (a list of edges); EarlierTell;
+-- OnCircle, Told (what a loop over a complete list says).
 use mathlib.Core.Path.{_≡_}
 use mathlib.Core.Bool.{true, false}
 use mathlib.Core.List.{List}
@@ -8,13 +9,16 @@ use Prim.Native.Nat.{ℕ, suc, _≤_, _<_}
 use lib.IntN.{ℤ, pos}
 use lib.ListN.{length, getD}
 use lib.Signed.{_<ℤ_}
-use Rattle.integers.specs.Sign.{nought}
+use Rattle.integers.specs.Sign.{nought, signOf}
 use Rattle.sphere.specs.declared.point.Point.{Point}
 use Rattle.sphere.specs.Orientation.{orientationOf}
 use Rattle.sphere.specs.Crossing.{crossingOf}
-use Rattle.polygon.specs.Vertices.{startOf, endOf}
+use Rattle.polygon.specs.Vertices.{vertexCount, startOf, endOf}
 use Rattle.polygon.specs.Border.{isCoincident, isBorder}
 use Rattle.polygon.specs.Verdict.{isHeldBy}
+use Rattle.search.specs.declared.walk.Tally.{Tally}
+use Rattle.search.specs.declared.walk.Tally.the-variants.{Held, Crossed}
+use Rattle.search.specs.Walk.{tallyFrom, NoneBefore}
 
 -- Strictly between the rays lo and hi.
 pub record InCone (X lo hi P : Point) : Type 0 where
@@ -45,3 +49,14 @@ pub record Complete (I : ℕ → Type 0) (n : ℕ) (l : List ℕ) (a b : ℕ) : 
 -- An edge before i that is coincident with it tells that edge i is no border: a walk came past it.
 pub record EarlierTell (vs : List ℤ) (i : ℕ) : Type 0 where
   pub tell : (j : ℕ) → j < i → isCoincident vs (startOf vs i) (endOf vs i) j ≡ true → isBorder vs i ≡ false
+
+-- P lies on the great circle of edge i, and no edge before it is border and holds P.
+pub record OnCircle (vs : List ℤ) (P : Point) (i : ℕ) : Type 0 where
+  pub below : i < vertexCount vs
+  pub level : signOf (orientationOf (startOf vs i) (endOf vs i) P) ≡ nought
+  pub none : NoneBefore vs P i
+
+-- The tally of all edges; or an edge on whose circle P lies.
+abbrev pub Told : List ℤ → Point → Point → Tally → Type 0
+Told vs X P (Held i) = OnCircle vs P i
+Told vs X P (Crossed crossed sum) = tallyFrom vs X P 0 (vertexCount vs) ≡ Crossed crossed sum

@@ -1,5 +1,6 @@
 -- Lists of edges, and parts of them: for the code alone. Defined, in order: Implies; isClear, isClearOf (an edge that
--- lies on the positive side of a plane); Entries; Kept (a list without some entries), Framed, Filtered, Sifted.
+-- lies on the positive side of a plane), isBesideOf; Entries; Kept (a list without some entries), Framed, Filtered,
+-- Sifted, Gathered.
 use mathlib.Core.Path.{_≡_}
 use mathlib.Core.Bool.{Bool, true, _&&_}
 use mathlib.Core.List.{List}
@@ -9,6 +10,7 @@ use lib.ListN.{length, getD}
 use Rattle.integers.specs.Sign.{Sign, signOf, isAtLeastZero}
 use Rattle.sphere.specs.declared.point.Point.{Point}
 use Rattle.sphere.specs.Orientation.{dotOf}
+use Rattle.sphere.specs.Crossing.{isBeside}
 use Rattle.polygon.specs.Vertices.{startOf, endOf}
 use Rattle.cones.specs.declared.lists.Part.{Part}
 
@@ -22,6 +24,10 @@ isClear s t = isAtLeastZero s && isAtLeastZero t
 
 abbrev pub isClearOf : List ℤ → Point → ℕ → Bool
 isClearOf vs N j = isClear (signOf (dotOf N (startOf vs j))) (signOf (dotOf N (endOf vs j)))
+
+-- Both ends are strictly on one side of it.
+abbrev pub isBesideOf : List ℤ → Point → ℕ → Bool
+isBesideOf vs N j = isBeside (signOf (dotOf N (startOf vs j))) (signOf (dotOf N (endOf vs j)))
 
 -- The entries from a on before b are below n.
 pub record Entries (n : ℕ) (l : List ℕ) (a b : ℕ) : Type 0 where
@@ -52,3 +58,8 @@ pub record Sifted (test : ℕ → Bool) (l m : List ℕ) (from to : ℕ) (r : Pa
   pub some : r .from ≤ r .to
   pub within : r .to ≤ length m
   pub kept : Kept test l m from (r .from) to (r .to)
+
+-- What is kept of the entries of l, from `from` on before `to`, stands on a list m of its own, before r.
+pub record Gathered (test : ℕ → Bool) (l m : List ℕ) (from to r : ℕ) : Type 0 where
+  pub within : r ≤ length m
+  pub kept : Kept test l m from 0 to r

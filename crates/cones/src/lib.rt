@@ -5,6 +5,7 @@ mod buckets;
 pub mod build;
 mod grow;
 mod lists;
+mod near;
 pub mod query;
 mod table;
 mod walk;

@@ -13,7 +13,7 @@ ghost use Rattle.cones.specs.Table.{isBetween, Rayed, IndexOn};
 use crate::buckets::query_bucket;
 use crate::build::Index;
 use crate::lists::wide;
-use crate::walk::walk_list;
+use crate::near::tally_near;
 use polygon::vertices::vertex_at;
 use search::arc::arc_between;
 use search::walk::Mode;
@@ -86,6 +86,7 @@ pub fn tally_edges(
     buckets: &[u16],
     spans: &[u16],
     list: &[u16],
+    near: &mut [u16],
     index: Index,
     known: Point,
     query: Point,
@@ -104,7 +105,9 @@ pub fn tally_edges(
         if is_between(arc.plane, lo, hi) {
             let from = wide(spans[(k - 1) * 2]);
             let to = wide(spans[(k - 1) * 2 + 1]);
-            return walk_list(vertices, arc, list, from, to);
+            if to - from <= near.len() {
+                return tally_near(grid, vertices, known, query, list, from, to, near);
+            }
         }
     }
     search_edges(grid, vertices, boxes, known, query, mode).tally

@@ -32,7 +32,7 @@ use sphere::plane::side_of;
 
 // Edge i is border, where all edges that join the same two directions are listed. Where one of them is before it, the
 // walk came past that one, so it is no border; nor is i, and nothing more is counted.
-fn is_border(vertices: &[i32], list: &[u16], from: usize, to: usize, i: usize) -> bool
+pub(crate) fn is_border(vertices: &[i32], list: &[u16], from: usize, to: usize, i: usize) -> bool
     requires { ⌜ Listed (now vertices) × Gridded fine (now vertices) × (i < vertexCount (now vertices))
         × EarlierTell (now vertices) i ⌝ }
     requires { ⌜ Complete (λ j. isCoincident (now vertices) (startOf (now vertices) i) (endOf (now vertices) i) j

@@ -105,6 +105,7 @@ fn judge_one(
     buckets: &[u16],
     spans: &[u16],
     list: &[u16],
+    near: &mut [u16],
     index: Index,
     known: Point,
     second: Point,
@@ -131,6 +132,7 @@ fn judge_one(
         buckets,
         spans,
         list,
+        near,
         index,
         known,
         second,
@@ -149,6 +151,7 @@ fn judge_all(
     buckets: &[u16],
     spans: &[u16],
     list: &[u16],
+    near: &mut [u16],
     index: Index,
     known: Point,
     second: Point,
@@ -172,6 +175,7 @@ fn judge_all(
             buckets,
             spans,
             list,
+            near,
             index,
             known,
             second,
@@ -221,6 +225,7 @@ fn judge_by_index(
         &buckets,
         &spans,
         &list,
+        &mut stack,
         index,
         known,
         second,
@@ -267,6 +272,7 @@ pub fn judge_each(
         }
     }
     let none = [0u16; 1];
+    let mut near = [0u16; 1];
     judge_all(
         grid,
         vertices,
@@ -275,6 +281,7 @@ pub fn judge_each(
         &none,
         &none,
         &none,
+        &mut near,
         no_index(),
         known,
         second,
