@@ -4,14 +4,12 @@ use mathlib.Core.Bool.{true}
 use Prim.Native.Nat.{ℕ, _+_, _*_, _-_, _<_}
 use native.Mathlib.Omega.{arith}
 use borrow.Author.Needs.{needs}
-use lib.ListN.{getD}
-use Rattle.polygon.specs.Vertices.{vertexCount, vertexAt}
+use Rattle.polygon.specs.Vertices.{vertexAt}
 use Rattle.polygon.proofs.Laws.Checks.{reference-accepted, accept-passed}
 use Rattle.sphere.specs.Point.{limitOf, Within}
+use Rattle.sphere.specs.Plane.{planeOf}
 use Rattle.search.specs.Arc.{arcOf, AcceptedArc}
-use Rattle.search.specs.Walk.{tallyFrom}
 use Rattle.search.proofs.Laws.Arc.{arc-searchable}
-use Rattle.cones.specs.Cones.{Idle, IdleIn, Complete}
 use Rattle.cones.specs.Table.{Node, isBetween}
 use Rattle.cones.proofs.Laws.Halved.{certified}
 use Rattle.cones.proofs.Laws.Index.{index-rayed, between}
@@ -137,49 +135,49 @@ shared-slice-read-wide-2 c =
 wide-requires-2 : tie.Need-wide-requires-2
 wide-requires-2 c κs = search needs
 
-walk-list-requires : tie.Need-walk-list-requires
-unfolding arcOf
-walk-list-requires c κs =
+sub-if3 : tie.Need-sub-if3
+sub-if3 c =
     let w = c .before .before in
+    omega (arith, w .wide .ensures, c .wide2 .ensures, node (w .before .before) .complete .some)
+
+tally-near-requires : tie.Need-tally-near-requires
+unfolding arcOf planeOf
+tally-near-requires c κs =
+    let r = c .before in
+    let w2 = r .before in
+    let w = w2 .before .before in
     let t = w .before .before in
     let v = s t .args in
     let a = arc (found t) in
     let vs = v .vertices .now in
-    let X = a .arc-between .result .from in
-    let P = a .arc-between .result .to in
     let lo = vertexAt (v .rays .now) (k (found t) * 2) in
     let hi = vertexAt (v .rays .now) (k (found t) * 2 + 1) in
     let n = node t .complete in
-    let off = reference-accepted _ vs X (aimed a .accepted) .off-circle in
+    let off = reference-accepted _ vs (v .known) (s t .pre .0 .0) .off-circle in
     let e : isBetween (a .arc-between .result .plane .normal) lo hi ≡ true =
     sym (λ j. isBetween (a .arc-between .result .plane .normal) (two t .before .vertex-at .ensures j)
     (two t .vertex-at2 .ensures j)) ∙ sym (t .before .is-between .ensures) ∙ t .if2 .taken in
-    let at = between X P lo hi (subst (λ m. isBetween m lo hi ≡ true) (aimed a .sound .through) e) in
-    let from-known : X ≡ v .known = ap (λ b. b .from) (a .arc-between .ensures) in (
-      aimed a,
-      rw (w .wide .ensures, c .wide2 .ensures) (record {
+    let through = ap (λ b. b .plane .normal) (a .arc-between .ensures) in
+    let at = between (v .known) (v .query) lo hi (subst (λ m. isBetween m lo hi ≡ true) through e) in (
+      (s t .pre .0 .0, s t .pre .0 .1, r .if3 .taken),
+      rw (w .wide .ensures, w2 .wide2 .ensures) (record {
         some = n .some;
         within = n .within;
-        covers = certified vs X off lo hi P at
-            (subst (λ x. Complete (IdleIn vs x lo hi) (vertexCount vs) (v .list .now)
-            (getD (v .spans .now) (k (found t) * 2) 0) (getD (v .spans .now) (k (found t) * 2 + 1) 0))
-            (sym from-known) n .covers);
+        covers = certified vs (v .known) off lo hi (v .query) at (n .covers);
       }),
     )
 
+same-length : tie.Need-same-length
+same-length c = search needs
+
 returns : tie.Need-returns
-unfolding arcOf
-returns c =
-    let a = arc (found (c .before .before .before .before .before)) in
-    let vs = start a .args .vertices .now in
-    c .walk-list .ensures
-    ∙ ap (λ b. tallyFrom vs (b .from) (b .to) 0 (vertexCount vs)) (a .arc-between .ensures)
+returns c = search needs
 
 search-edges-requires : tie.Need-search-edges-requires
-search-edges-requires c κs = start (c .before .before) .pre .0
+search-edges-requires c κs = search needs
 
 returns-2 : tie.Need-returns-2
-returns-2 c = c .search-edges .ensures .0
+returns-2 c = search needs
 
 pub tally-edges-spec : {M : Type 1} → statement M
 tally-edges-spec =
@@ -206,7 +204,9 @@ tally-edges-spec =
     mul-wide-4
     shared-slice-read-wide-2
     wide-requires-2
-    walk-list-requires
+    sub-if3
+    tally-near-requires
+    same-length
     returns
     search-edges-requires
     returns-2)
