@@ -48,9 +48,12 @@ slice-aggregate-judge-all-3 c = search needs
 slice-aggregate-judge-all-4 : tie.Need-slice-aggregate-judge-all-4
 slice-aggregate-judge-all-4 c = search needs
 
+slice-aggregate-judge-all-5 : tie.Need-slice-aggregate-judge-all-5
+slice-aggregate-judge-all-5 c = search needs
+
 judge-all-requires : tie.Need-judge-all-requires
 judge-all-requires c κs =
-    let b = c .before .before .before .before .before .before .before .before .before .before in
+    let b = c .before .before .before .before .before .before .before .before .before .before .before in
     let s = b .before .before .before .before .before .before .before .before in
     (s .pre .0, (b .build .ensures, s .pre .1))
 
@@ -58,7 +61,7 @@ same-length : tie.Need-same-length
 same-length c = search needs
 
 returns : tie.Need-returns
-returns c = c .before .before .judge-all .ensures
+returns c = c .before .before .before .judge-all .ensures
 
 pub judge-by-index-spec : {M : Type 1} → statement M
 judge-by-index-spec =
@@ -74,6 +77,7 @@ judge-by-index-spec =
     slice-aggregate-judge-all-2
     slice-aggregate-judge-all-3
     slice-aggregate-judge-all-4
+    slice-aggregate-judge-all-5
     judge-all-requires
     same-length
     returns)

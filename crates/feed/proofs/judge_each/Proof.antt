@@ -44,19 +44,22 @@ slice-aggregate-judge-all-2 c = search needs
 slice-aggregate-judge-all-3 : tie.Need-slice-aggregate-judge-all-3
 slice-aggregate-judge-all-3 c = search needs
 
+slice-aggregate-judge-all-4 : tie.Need-slice-aggregate-judge-all-4
+slice-aggregate-judge-all-4 c = search needs
+
 no-index-requires : tie.Need-no-index-requires
 no-index-requires c κs = search needs
 
 judge-all-requires : tie.Need-judge-all-requires
 judge-all-requires c κs =
-    let s = c .before .before .before .before .before .before .before .before in
+    let s = c .before .before .before .before .before .before .before .before .before in
     (s .pre .0, (rw (c .before .no-index .ensures) (none-on _ _ _ _ _), s .pre .1))
 
 same-length-3 : tie.Need-same-length-3
 same-length-3 c = search needs
 
 returns-3 : tie.Need-returns-3
-returns-3 c = c .before .before .judge-all .ensures
+returns-3 c = c .before .before .before .judge-all .ensures
 
 pub judge-each-spec : {M : Type 1} → statement M
 judge-each-spec =
@@ -74,6 +77,7 @@ judge-each-spec =
     slice-aggregate-judge-all
     slice-aggregate-judge-all-2
     slice-aggregate-judge-all-3
+    slice-aggregate-judge-all-4
     no-index-requires
     judge-all-requires
     same-length-3

@@ -18,12 +18,12 @@ use Rattle.cones.proofs.query.tally_edges.Statement.{statement}
 use Rattle.cones.proofs.query.tally_edges.Tie as tie
 
 arc-between-requires : tie.Need-arc-between-requires
-arc-between-requires c κs = let s = c .before .before .before in (accept-passed (s .pre .0 .0) .known, s .pre .0 .1)
+arc-between-requires c κs = let s = c .before .before .before .before in (accept-passed (s .pre .0 .0) .known, s .pre .0 .1)
 
 -- The arc.
 module _ (c : tie.After-arc-between) where
   abbrev start : tie.Start
-  start = c .before .before .before .before
+  start = c .before .before .before .before .before
 
   aimed : AcceptedArc (start .args .vertices .now) (c .arc-between .result)
   aimed =

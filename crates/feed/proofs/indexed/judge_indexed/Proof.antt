@@ -51,7 +51,7 @@ returns-2 c = c .judge-boxed2 .ensures .0
 -- The query is on the grid.
 module _ (c : tie.Else2) where
   abbrev start : tie.Start
-  start = c .before .before .before .before .before .before .before
+  start = c .before .before .before .before .before .before .before .before
 
   gridded : isOffGrid (limitOf (start .args .grid)) (start .args .query) ≡ false
   gridded = sym (c .before .is-off-grid .ensures) ∙ c .if2 .left
@@ -72,17 +72,20 @@ returns-3 c = c .judge-boxed3 .ensures .0
 
 tally-edges-requires : tie.Need-tally-edges-requires
 tally-edges-requires c κs =
-    let e = c .before .before in
+    let e = c .before .before .before in
     let s = start e in ((accepted s, within e, s .pre .0 .1), s .pre .1)
 
 verdict-on-requires : tie.Need-verdict-on-requires
 verdict-on-requires c κs = search needs
 
+same-length : tie.Need-same-length
+same-length c = search needs
+
 returns-4 : tie.Need-returns-4
 unfolding answerOf judgeCheck
 returns-4 c =
-    let t = c .before in
-    let e = t .before in
+    let t = c .before .before .before in
+    let e = t .before .before in
     let q = e .before .before in
     let s = start q in
     let a = s .args in
@@ -111,4 +114,5 @@ judge-indexed-spec =
     returns-3
     tally-edges-requires
     verdict-on-requires
+    same-length
     returns-4)
