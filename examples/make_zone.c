@@ -16,8 +16,8 @@
  *     cc -o make_zone make_zone.c $(pkg-config --cflags --libs spargolutta) -lm
  */
 #include "drawing.h"
+#include "files.h"
 #include <spargolutta.h>
-#include <stdio.h>
 #include <string.h>
 
 #define STEPS 64                  /* grid steps that a known point is moved, at most */
@@ -35,25 +35,6 @@ static void refuse(const char *what, uint32_t number, size_t place)
         fprintf(stderr, ", place %zu", place);
     fputc('\n', stderr);
     exit(1);
-}
-
-static FILE *open_or_exit(const char *path, const char *mode)
-{
-    FILE *file = fopen(path, mode);
-    if (file == NULL) {
-        perror(path);
-        exit(2);
-    }
-    return file;
-}
-
-static void close_or_exit(FILE *file, const char *path)
-{
-    bool failed = ferror(file) != 0;
-    if (fclose(file) != 0 || failed) {
-        fprintf(stderr, "%s: cannot be read or written\n", path);
-        exit(2);
-    }
 }
 
 static struct vector of_point(const int32_t *p)

@@ -7,11 +7,9 @@
 #ifndef STOPS_H
 #define STOPS_H
 
+#include "files.h"
 #include <errno.h>
 #include <spargolutta.h>
-#include <stdbool.h>
-#include <stdio.h>
-#include <stdlib.h>
 #include <string.h>
 
 #define FEED_MOST 4096 /* stops in a feed */
@@ -23,25 +21,6 @@ struct feed {
     uint8_t queries[SPG_POINT_SIZE * FEED_MOST];
     uint8_t results[SPG_POINT_SIZE * FEED_MOST];
 };
-
-static FILE *open_or_exit(const char *path, const char *mode)
-{
-    FILE *file = fopen(path, mode);
-    if (file == NULL) {
-        perror(path);
-        exit(2);
-    }
-    return file;
-}
-
-static void close_or_exit(FILE *file, const char *path)
-{
-    bool failed = ferror(file) != 0;
-    if (fclose(file) != 0 || failed) {
-        fprintf(stderr, "%s: cannot be read or written\n", path);
-        exit(2);
-    }
-}
 
 /* Reads a file, or its first `most` bytes; how many there were. */
 static size_t read_file(const char *path, uint8_t *bytes, size_t most)

@@ -2,40 +2,36 @@
 
 use crate::{Answer, Parts, Point, Written};
 
+/// The calls that are handed a sheet's parts, and what else each takes.
+macro_rules! calls_with_parts {
+    ($(fn $name:ident($($more:ident: $kind:ty),*) -> $given:ty;)*) => {
+        extern "C" {
+            $(fn $name(
+                zone: u32,
+                charset: u32,
+                name: *const u8,
+                name_len: usize,
+                known_x: i32,
+                known_y: i32,
+                known_z: i32,
+                second_x: i32,
+                second_y: i32,
+                second_z: i32,
+                vertices: *const u8,
+                vertices_len: usize,
+                grid: u32,
+                $($more: $kind),*
+            ) -> $given;)*
+        }
+    };
+}
+
+calls_with_parts! {
+    fn spg_write_number(sheet: *mut u8, sheet_len: usize) -> u32;
+    fn spg_write_place(sheet_len: usize) -> usize;
+}
+
 extern "C" {
-    fn spg_write_number(
-        zone: u32,
-        charset: u32,
-        name: *const u8,
-        name_len: usize,
-        known_x: i32,
-        known_y: i32,
-        known_z: i32,
-        second_x: i32,
-        second_y: i32,
-        second_z: i32,
-        vertices: *const u8,
-        vertices_len: usize,
-        grid: u32,
-        sheet: *mut u8,
-        sheet_len: usize,
-    ) -> u32;
-    fn spg_write_place(
-        zone: u32,
-        charset: u32,
-        name: *const u8,
-        name_len: usize,
-        known_x: i32,
-        known_y: i32,
-        known_z: i32,
-        second_x: i32,
-        second_y: i32,
-        second_z: i32,
-        vertices: *const u8,
-        vertices_len: usize,
-        grid: u32,
-        sheet_len: usize,
-    ) -> usize;
     fn spg_sheet_number(sheet: *const u8, sheet_len: usize) -> u32;
     fn spg_sheet_place(sheet: *const u8, sheet_len: usize) -> usize;
     fn spg_sheet_zone(sheet: *const u8, sheet_len: usize) -> u32;
