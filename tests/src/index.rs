@@ -1,137 +1,120 @@
-//! The index of long feeds: their results against the reference and against the single calls, which go by the boxes.
-//! Outlines that are hard for cones about the known point, and feeds at the length from which an index is built.
+//! The index of long feeds: their results against the reference, against the single calls, and against feeds too short
+//! for an index, which both go by the boxes. Outlines that are hard for cones about the known point, of any number of
+//! sides, and feeds at the length from which an index is built.
 
+mod tiny;
+
+use crate::corridors::corridors;
 use crate::feed::equals_single_calls;
-use crate::islands::{islands_on, queries, EXTENTS};
-use crate::outlines::{sheet_and_queries, Numbers, Source};
+use crate::hard_outlines::{drawings, known_points, Drawing};
+use crate::islands::{islands_on, queries, EXTENTS, QUERIES, SIDES};
+use crate::library::by_boxes::{self, threshold};
+use crate::outlines::{query, sheet_and_queries, Numbers, Source};
 use crate::random::Random;
-use crate::sheet::{Grid, Sheet, GRIDS};
-use crate::stars::star;
+use crate::sheet::{points_bytes, sides, GRIDS};
 use crate::{library, Point};
-use std::f64::consts::TAU;
 
-/// The least number of queries for which an index is built.
-fn threshold(sides: usize) -> usize {
-    128 + sides / 8
-}
-
-/// A point of the plane z = 1, drawn as large as the grid allows.
-fn at(grid: Grid, [x, y]: [f64; 2]) -> Point {
-    let limit = f64::from(grid.limit());
-    [(x * limit) as i32, (y * limit) as i32, grid.limit()]
-}
-
-/// Vertices that follow each other have to differ in direction.
-fn outline(points: impl Iterator<Item = Point>) -> Vec<Point> {
-    let mut vertices: Vec<Point> = points.collect();
-    vertices.dedup();
-    while vertices.len() > 1 && vertices.first() == vertices.last() {
-        vertices.pop();
+/// The whole feed, and feeds at the threshold and one below, give the bytes that the boxes give.
+fn equals_boxes(what: &str, sheet: &[u8], queries: &[Point]) {
+    let bytes = points_bytes(queries);
+    let mut expected = vec![0; bytes.len()];
+    assert_eq!(by_boxes::feed(sheet, &bytes, &mut expected), 0);
+    let least = threshold(sides(sheet));
+    assert!(queries.len() > least, "{what}: {} queries, no index", queries.len());
+    for n in [least - 1, least, queries.len()] {
+        let mut found = vec![0; 12 * n];
+        assert_eq!(library::feed_number(sheet, &bytes[..12 * n], &mut found), 0);
+        let differs =
+            found.chunks(12).zip(expected.chunks(12)).position(|(found, expected)| found != expected);
+        assert_eq!(differs.map(|i| queries[i]), None, "{what}, {n} queries: the first that differs");
     }
-    vertices
 }
 
-/// Out along a spiral of five turns, and back beside it.
-fn spiral(grid: Grid, sides: usize) -> Vec<Point> {
-    let half = sides / 2;
-    let arm = |k: usize, wide: f64| {
-        let turned = k as f64 / half as f64;
-        let (sine, cosine) = (5.0 * TAU * turned).sin_cos();
-        let distance = 0.1 + 0.15 * 5.0 * turned + wide;
-        at(grid, [distance * cosine, distance * sine])
+/// Those of the known points that the drawing accepts, each with its sheet.
+fn accepted(drawing: &Drawing) -> impl Iterator<Item = (Point, Vec<u8>)> + '_ {
+    let sheets = known_points(drawing.grid).map(|known| (known, drawing.sheet(known)));
+    sheets.into_iter().filter(|(_, sheet)| library::number(sheet, [0; 3]) == 17)
+}
+
+/// Against the reference, which is slow on long outlines: so with fewer known points.
+fn compare(random: &mut Random, drawing: &Drawing) {
+    let n = threshold(drawing.vertices.len());
+    let knowns = match drawing.vertices.len() {
+        ..=100 => 4,
+        101..=2_000 => 2,
+        _ => 1,
     };
-    outline((0..half).map(|k| arm(k, 0.0)).chain((0..half).rev().map(|k| arm(k, 0.05))))
-}
-
-/// Side by side across the known point's plane.
-fn zigzag(grid: Grid, sides: usize) -> Vec<Point> {
-    let x = |k: usize| k as f64 / sides as f64 - 0.5;
-    outline((0..sides).map(|k| at(grid, [x(k), if k % 2 == 0 { 0.6 } else { 0.5 }])))
-}
-
-/// Teeth from one line.
-fn comb(grid: Grid, sides: usize) -> Vec<Point> {
-    let x = |k: usize| (k / 2) as f64 / (sides / 2) as f64 - 0.5;
-    outline((0..sides).map(|k| at(grid, [x(k), if k % 4 == 1 || k % 4 == 2 { 0.7 } else { 0.1 }])))
-}
-
-/// Vertices anywhere.
-fn scribble(random: &mut Random, grid: Grid, sides: usize) -> Vec<Point> {
-    outline((0..sides).map(|_| random.point(grid.limit())))
-}
-
-/// A square with one corridor, walked out and back a hundred times.
-fn corridor(grid: Grid) -> Vec<Point> {
-    let corner = |x: f64, y: f64| at(grid, [x, y]);
-    let square = [corner(-0.3, -0.3), corner(0.3, -0.3), corner(0.3, 0.3), corner(-0.3, 0.3)];
-    let walked = (0..200).map(|k| if k % 2 == 0 { corner(0.8, 0.5) } else { square[2] });
-    outline(square[..3].iter().copied().chain(walked).chain([square[3]]))
-}
-
-/// Queries at vertices, half way between neighbours, near them, and anywhere; and the known point and its opposite.
-fn asked(random: &mut Random, grid: Grid, known: Point, vertices: &[Point], n: usize) -> Vec<Point> {
-    let one = |k: usize| {
-        let i = random.below(vertices.len());
-        let (a, b) = (vertices[i], vertices[(i + 1) % vertices.len()]);
-        match k % 8 {
-            0 => a,
-            1 => [0, 1, 2].map(|c| (a[c] + b[c]) / 2),
-            2 => [0, 1, 2].map(|c| a[c] + random.between(-3, 3)),
-            3 => a.map(|c| -c),
-            4 if k % 64 == 4 => known,
-            4 if k % 64 == 12 => known.map(|c| -c),
-            5 => [0, 1, 2].map(|c| ((i64::from(known[c]) + i64::from(a[c])) / 2) as i32),
-            _ => random.point(grid.limit()),
-        }
-    };
-    (0..n).map(one).collect()
-}
-
-/// Known points amid the outline, beside it and far from it. Those on a side's circle are refused, and tell nothing.
-fn compare(random: &mut Random, grid: Grid, vertices: &[Point]) {
-    let limit = grid.limit();
-    let knowns = [[7, -3, limit], [11, 2, -limit], [limit / 3, limit / 5 + 1, limit], [limit, 3 - limit, -5]];
-    // Long outlines are slow to compare, so with fewer of both.
-    let long = vertices.len() > 1_000;
-    for known in knowns.into_iter().take(if long { 2 } else { 4 }) {
-        let sheet = Sheet::new(known, vertices).on(grid).bytes();
-        if library::number(&sheet, [1, 1, limit]) > 9 {
-            continue;
-        }
-        let n = threshold(vertices.len());
-        let asked = asked(random, grid, known, vertices, n + 1);
-        for n in if long { n..=n } else { n - 1..=n + 1 } {
-            equals_single_calls(&sheet, &asked[..n], 0);
-        }
+    for (known, sheet) in accepted(drawing).take(knowns) {
+        equals_single_calls(&sheet, &drawing.asked(random, known, n), 0);
     }
 }
 
 #[test]
 fn index_on_hard_outlines() {
     let random = &mut Random::new(270);
-    for grid in GRIDS {
-        for sides in [8, 65, 256, 1_071, 4_096] {
-            let drawn = [
-                star(random, grid, sides),
-                spiral(grid, sides),
-                zigzag(grid, sides),
-                comb(grid, sides),
-                scribble(random, grid, sides),
-            ];
-            for vertices in drawn {
-                compare(random, grid, &vertices);
+    for (grid, sides) in GRIDS.into_iter().flat_map(|grid| [8, 65, 256, 1_071, 4_096].map(|n| (grid, n))) {
+        for drawing in drawings(random, grid, sides) {
+            // The reference's time on corridors grows with the square of their sides.
+            if drawing.name != "corridor" || sides <= 256 {
+                compare(random, &drawing);
             }
         }
-        compare(random, grid, &corridor(grid));
     }
+}
+
+/// Outlines of 3 to 4,096 sides, about each size from which something changes.
+#[test]
+fn index_of_every_size() {
+    let (random, mut compared) = (&mut Random::new(274), 0);
+    let about = [8, 22, 32, 64, 128, 256].into_iter().flat_map(|n| n - 1..=n + 1);
+    for n in (3..7).chain(about).chain([512, SIDES, 2_048, 4_095, 4_096]) {
+        for drawing in GRIDS.map(|grid| drawings(random, grid, n)).into_iter().flatten() {
+            // The boxes' time on corridors grows with the square of their sides.
+            let some = if drawing.name == "corridor" && n > 512 { 0 } else { 4 };
+            for (known, sheet) in accepted(&drawing).take(some) {
+                let what = format!("{} of {n} sides, {:?}, known {known:?}", drawing.name, drawing.grid);
+                let mut asked = drawing.asked(random, known, threshold(n));
+                asked.extend(drawing.along(random, 20));
+                equals_boxes(&what, &sheet, &asked);
+                compared += 1;
+            }
+        }
+    }
+    assert!(compared > 1_200, "only {compared} sheets compared");
 }
 
 #[test]
 fn index_on_islands() {
     for grid in GRIDS {
-        for (sides, extent) in [64, 256, 1_071].into_iter().flat_map(|n| EXTENTS.map(|extent| (n, extent))) {
+        for (sides, extent) in
+            [64, 256, SIDES, 4_096].into_iter().flat_map(|n| EXTENTS.map(|extent| (n, extent)))
+        {
             let islands = islands_on(grid, 271, sides, extent);
-            equals_single_calls(&islands.sheet(), &queries(272, &islands, 2_000), 0);
+            let (what, asked) =
+                (format!("{sides} sides, {extent:?}, {grid:?}"), queries(272, &islands, QUERIES));
+            equals_boxes(&what, &islands.sheet(), &asked);
+            if sides <= SIDES {
+                equals_single_calls(&islands.sheet(), &asked[..2_000], 0);
+            }
+        }
+    }
+}
+
+/// Each side is walked an even number of times and holds the query.
+#[test]
+fn index_on_corridors() {
+    let random = &mut Random::new(275);
+    for (grid, sides) in GRIDS.into_iter().flat_map(|grid| [8, 64, 136, 264].map(|n| (grid, n))) {
+        for case in corridors(grid, sides) {
+            let source = Source(grid, Numbers::Within(grid.limit() / 6));
+            let (known, sheet) = (case.sheet.known, case.sheet.bytes());
+            let one =
+                |k| if k % 8 == 0 { case.query } else { query(random, source, known, &case.sheet.vertices) };
+            let asked: Vec<Point> = (0..140 + sides / 8).map(one).collect();
+            equals_boxes(case.name, &sheet, &asked);
+            if sides <= 64 {
+                equals_single_calls(&sheet, &asked, 0);
+            }
         }
     }
 }

@@ -1,14 +1,15 @@
 //! Host tests: the archive and the program against a second, independent reading of documents
 //! 01 and 02.
 //!
-//! `reference` is that reading, `library` and `imports` the calls under test. `random`, `sheet`, `islands` and
-//! `stars` make the inputs, `host` runs programs; the benchmark uses these too. `calls` has the calls as a table, on
-//! the guarded pages of `guard`, and the fuzzer uses these. `outlines`, `turns` and `corridors` make inputs:
+//! `reference` is that reading, `library` and `imports` the calls under test. `random`, `sheet`, `islands`, `stars` and
+//! `hard_outlines` make the inputs, `host` runs programs; the benchmark uses these too. `calls` has the calls as a
+//! table, on the guarded pages of `guard`, and the fuzzer uses these. `outlines`, `turns` and `corridors` make inputs:
 //! coincidences, turns that floats get wrong, and queries on many corridors. The other modules are the tests.
 
 pub mod calls;
 pub mod fractions;
 pub mod guard;
+pub mod hard_outlines;
 pub mod host;
 pub mod imports;
 pub mod islands;

@@ -1,6 +1,7 @@
 //! The calls of libspargolutta.a, declared as in include/spargolutta.h.
 
 pub mod book;
+pub mod by_boxes;
 pub mod sheets;
 
 use crate::{Answer, Comparison, Point, Single};

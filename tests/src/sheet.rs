@@ -100,6 +100,13 @@ pub fn points_bytes(points: &[Point]) -> Vec<u8> {
     points.iter().copied().flat_map(point_bytes).collect()
 }
 
+/// The number of sides by the length of the vertices. Before them only the name, whose length is at 12, has no fixed
+/// length.
+pub fn sides(sheet: &[u8]) -> usize {
+    let length = |at: usize| usize::from(u16::from_be_bytes([sheet[at], sheet[at + 1]]));
+    length(30 + length(12)) / 12
+}
+
 pub const OCTANT: [Point; 3] = [[1, 0, 0], [0, 1, 0], [0, 0, 1]];
 
 /// Document 01's octant: 69 bytes.
