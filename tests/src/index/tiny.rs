@@ -1,5 +1,5 @@
-//! The index on outlines of 3 to 8 sides, where every side is in most of the cones: all queries of a small grid, which are
-//! more than the threshold, against the reference and the single calls.
+//! The index on outlines of 3 to 8 sides, where every side is in most of the cones: all queries of a small grid, which
+//! are more than the threshold, against the reference and the single calls.
 
 use crate::compare::Tally;
 use crate::feed::equals_single_calls;
@@ -35,8 +35,8 @@ struct Places {
 }
 
 impl Places {
-    /// In a plane of two axes or on an axis; on the small grid; beside the known point's opposite, or beside itself; and
-    /// beside the opposite of the vertex before, so that the side is nearly half a circle.
+    /// In a plane of two axes or on an axis; on the small grid; beside the known point's opposite, or beside the known
+    /// point; and beside the opposite of the vertex before, so that the side is nearly half a circle.
     fn vertex(self, random: &mut Random, before: Point) -> Point {
         let limit = self.grid.limit();
         let beside = |p: Point, d: Point| [0, 1, 2].map(|c| (p[c] + d[c]).clamp(-limit, limit));
