@@ -1,5 +1,6 @@
-//! The library against document 02's P2 in checked Rust and in C: one call, the program, a feed on each grid; the basin
-//! profile and an import against C; and a book against single calls on its sheets. The contestants take turns, and the
+//! The library against document 02's P2 in checked Rust and in C: one call, the program, a feed on each grid; the index
+//! of long feeds against the boxes; the basin profile and an import against C; and a book against single calls on its
+//! sheets. The contestants take turns, and the
 //! least time of many rounds counts. Prints tables, and draws the times of feeds as docs/feed-time.svg.
 //!
 //! Started with a folder and a contestant it makes one feed call, one of the basin profile, one import, or asks one
@@ -11,6 +12,7 @@ mod calls;
 mod comparisons;
 mod feeds;
 mod geojson;
+mod index;
 mod instructions;
 mod plain_c;
 mod plot;
@@ -55,7 +57,10 @@ fn main() {
     feeds::judge_p13(&works, &times);
     plot::draw(&works, &times);
     feeds::compare_single_calls();
-    instructions::compare(Grid::Coarse, &works);
+    let counts = instructions::compare(Grid::Coarse, &works);
+    index::break_even(&works, &times, counts.as_deref());
+    let hard = index::compare_hard_outlines();
+    index::judge_index(&works, &times, counts.as_deref(), hard);
     let works = feeds::works(Grid::Fine);
     feeds::compare(Grid::Fine, &works);
     instructions::compare(Grid::Fine, &works);

@@ -1,6 +1,6 @@
 //! docs/feed-time.svg: the time of a feed against the number of sides, both axes logarithmic.
 
-use crate::feeds::{Work, CONTESTANTS};
+use crate::feeds::{place_of, Work};
 use crate::processor;
 use crate::table::{figure, thousands};
 use spargolutta_tests::host::repository;
@@ -120,11 +120,11 @@ fn picture(marks: &[usize], times: &[Vec<f64>]) -> String {
 
 /// Draws the works on islands in a sea.
 pub fn draw(works: &[Work], times: &[Vec<f64>]) {
-    let drawn = || works.iter().zip(times).filter(|(work, _)| matches!(work.extent, Extent::Archipelago));
+    let drawn =
+        || works.iter().zip(times).filter(|(work, _)| matches!(work.extent, Some(Extent::Archipelago)));
     let marks: Vec<usize> = drawn().map(|(work, _)| work.sides).collect();
     let times_of = |(name, _, _): &(&str, &str, &str)| {
-        let k = CONTESTANTS.iter().position(|(known, _)| known == name).expect("contestant");
-        drawn().map(|(_, times)| times[k]).collect::<Vec<f64>>()
+        drawn().map(|(_, times)| times[place_of(name)]).collect::<Vec<f64>>()
     };
     let times: Vec<Vec<f64>> = LINES.iter().map(times_of).collect();
     let title = format!("Time of a feed of {} queries, in milliseconds", thousands(QUERIES));

@@ -40,6 +40,16 @@ pub fn counted_row(name: &str, figures: Option<&[f64]>) {
     }
 }
 
+/// What is asked for and what came of it, if it could be counted.
+pub fn judge(asked: &str, most: f64, found: Option<f64>) {
+    let verdict = match found {
+        Some(found) if found <= most => format!("{found:.2}, met"),
+        Some(found) => format!("{found:.2}, missed"),
+        None => "not counted".to_string(),
+    };
+    println!("{asked} at most {most}: {verdict}");
+}
+
 /// With a comma between thousands.
 pub fn thousands(number: usize) -> String {
     match number {
