@@ -29,6 +29,17 @@ pub const BOXES: &str =
 /// What a feed costs before its first query: the sheet is opened and checked.
 pub const OPENING: Feed = |sheet, _, results| library::feed_number(sheet, &[], results);
 
+/// The same results with as many indexes as there can be: in feeds at the threshold, the last one longer.
+pub fn many_indexes(sheet: &[u8], queries: &[u8], results: &mut [u8]) -> u32 {
+    let size = 12 * by_boxes::threshold(sides(sheet));
+    let cut = size * (queries.len() / size - 1);
+    let ((first, last), (first_results, last_results)) = (queries.split_at(cut), results.split_at_mut(cut));
+    for (queries, results) in first.chunks(size).zip(first_results.chunks_mut(size)) {
+        assert_eq!(library::feed_number(sheet, queries, results), 0);
+    }
+    library::feed_number(sheet, last, last_results)
+}
+
 /// The place of a contestant among them.
 pub fn place_of(name: &str) -> usize {
     CONTESTANTS.iter().position(|(known, _)| *known == name).expect("contestant")
@@ -63,7 +74,7 @@ impl Work {
     }
 
     /// Of the most interest: islands in a sea, and document 000's number of sides.
-    fn is_typical(&self) -> bool {
+    pub fn is_typical(&self) -> bool {
         matches!(self.extent, Some(Extent::Archipelago)) || self.sides == SIDES
     }
 }

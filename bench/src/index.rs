@@ -1,24 +1,17 @@
-//! The index of long feeds beside the boxes: the queries from which it is worth its building, outlines that are hard for
-//! it, and what was asked of it.
+//! The index of long feeds beside the boxes: the queries from which it is worth its building, outlines that are hard
+//! for it, and what was asked of it.
 
-use crate::feeds::{measure, times, worst_ratio, Work, BOXES, OPENING};
+use crate::feeds::{many_indexes, measure, open_once, times, worst_ratio, Work, BOXES, OPENING};
 use crate::instructions::count_feed;
 use crate::table::{counted_row, figure, heading, judge, line, row, thousands};
 use spargolutta_tests::hard_outlines::{drawings, known_points, Drawing};
 use spargolutta_tests::islands::{QUERIES, SIDES};
-use spargolutta_tests::library::{self, by_boxes::threshold};
+use spargolutta_tests::library;
+use spargolutta_tests::library::by_boxes::{self, threshold};
 use spargolutta_tests::random::Random;
 use spargolutta_tests::sheet::{points_bytes, Grid};
 
-/// Of feeds at the threshold, which take little time.
-const SHORT_ROUNDS: usize = 60;
-
-/// The same outline and `n` of the queries, from all over them.
-fn thinned(work: &Work, n: usize) -> Work {
-    let all: Vec<&[u8]> = work.queries.chunks_exact(12).collect();
-    let queries = (0..n).flat_map(|k| all[k * all.len() / n]).copied().collect();
-    Work { name: work.name.clone(), sheet: work.sheet.clone(), queries, ..*work }
-}
+const ROUNDS: usize = 8;
 
 /// What an index costs, and a query by it and by the boxes.
 struct Costs {
@@ -28,23 +21,25 @@ struct Costs {
 }
 
 impl Costs {
-    /// By the figures of the whole feed, of ours and of the boxes, of ours at the threshold, and of opening the sheet. A
-    /// feed of n queries costs the opening, the index and n queries: two lengths tell the index from the queries.
-    fn of(work: &Work, long: &[f64], short: f64, opening: f64) -> Costs {
-        let (n, least) = (QUERIES as f64, threshold(work.sides) as f64);
-        let query = (long[0] - short) / (n - least);
-        Costs { index: short - opening - least * query, query, boxes: (long[1] - opening) / n }
+    /// By the figures of ours, of the boxes, of ours with many indexes, and of opening the sheet.
+    fn of(work: &Work, [ours, boxes, many, opening]: [f64; 4]) -> Costs {
+        let (n, feeds) = (QUERIES as f64, (QUERIES / threshold(work.sides)) as f64);
+        let index = (many - ours) / (feeds - 1.0) - opening;
+        Costs { index, query: (ours - opening - index) / n, boxes: (boxes - opening) / n }
     }
 
+    /// The last of the counts is the opening's.
     fn counted(work: &Work, counts: &[f64]) -> Option<Costs> {
-        let short = thinned(work, threshold(work.sides));
-        Some(Costs::of(work, counts, count_feed(&short, "ours")?, count_feed(work, "opening")?))
+        let many = count_feed(work, "many indexes")?;
+        Some(Costs::of(work, [counts[0], counts[1], many, counts[counts.len() - 1]]))
     }
 
-    fn timed(work: &Work, times: &[f64]) -> Costs {
-        let short = thinned(work, threshold(work.sides));
-        let measured = measure(&[library::feed_number, OPENING], &short, SHORT_ROUNDS);
-        Costs::of(work, times, measured[0].0, measured[1].0)
+    fn timed(work: &Work) -> Costs {
+        let measured = measure(&[library::feed_number, by_boxes::feed, many_indexes, OPENING], work, ROUNDS);
+        let mut figures = [0, 1, 2, 3].map(|k| measured[k].0);
+        let opening = figures[3];
+        open_once(work, &mut figures, opening);
+        Costs::of(work, figures)
     }
 
     /// The queries from which the index is worth it.
@@ -53,17 +48,17 @@ impl Costs {
     }
 }
 
-pub fn break_even(works: &[Work], times: &[Vec<f64>], counts: Option<&[Vec<f64>]>) {
+/// The index's cost comes from the same queries in feeds at the threshold, each with an index of its own.
+pub fn break_even(works: &[Work], counts: Option<&[Vec<f64>]>) {
     let title = "An index and a query: instructions; queries from which the index is worth it, and is built";
-    heading(title, &["index, million", "a query by it", "by the boxes", "worth it (by time)", "built"]);
-    for (k, work) in works.iter().enumerate() {
+    heading(title, &["index, million", "a query by it", "by the boxes", "worth it (time)", "built"]);
+    for (k, work) in works.iter().enumerate().filter(|(_, work)| work.is_typical()) {
         let Some(costs) = counts.and_then(|counts| Costs::counted(work, &counts[k])) else {
             counted_row(&work.name, None);
             continue;
         };
-        let by_time = Costs::timed(work, &times[k]).break_even();
         let [query, boxes] = [costs.query, costs.boxes].map(|cost| thousands((1e6 * cost).round() as usize));
-        let worth = format!("{} ({by_time})", costs.break_even());
+        let worth = format!("{} ({})", costs.break_even(), Costs::timed(work).break_even());
         line(&work.name, [figure(costs.index), query, boxes, worth, thousands(threshold(work.sides))]);
     }
 }
@@ -85,7 +80,7 @@ fn hard_work(random: &mut Random, drawing: &Drawing) -> Work {
 pub fn compare_hard_outlines() -> f64 {
     heading("Feeds on hard outlines, coarse grid: ms, least of 3 rounds or more", &["ours", "the boxes"]);
     let (random, mut worst) = (&mut Random::new(1), 0f64);
-    for (sides, rounds) in [(64, 9), (SIDES, 5), (4_096, 3)] {
+    for (sides, rounds) in [(64, 15), (SIDES, 6), (4_096, 3)] {
         for drawing in drawings(random, Grid::Coarse, sides) {
             if drawing.name == "corridor" && sides > SIDES {
                 continue;

@@ -1,7 +1,7 @@
 //! The instructions of a call, counted by valgrind's callgrind: a number that other work on the machine leaves alone.
 //! Here for feeds.
 
-use crate::feeds::{on_grid, open_once, Feed, Work, BOXES, CONTESTANTS, OPENING};
+use crate::feeds::{many_indexes, on_grid, open_once, Feed, Work, BOXES, CONTESTANTS, OPENING};
 use crate::table::{counted_row, heading};
 use spargolutta_tests::host::{command, Folder};
 use spargolutta_tests::sheet::Grid;
@@ -18,7 +18,7 @@ fn counted_feed(feed: Feed, sheet: &[u8], queries: &[u8], results: &mut [u8]) ->
 /// One feed of the folder's sheet and queries.
 pub fn feed_once(folder: &Path, contestant: &str) {
     let [sheet, queries] = ["sheet", "queries"].map(|name| fs::read(folder.join(name)).expect("file"));
-    let mut feeds = CONTESTANTS.into_iter().chain([("opening", OPENING)]);
+    let mut feeds = CONTESTANTS.into_iter().chain([("opening", OPENING), ("many indexes", many_indexes)]);
     let (_, feed) = feeds.find(|(name, _)| *name == contestant).expect("contestant");
     assert_eq!(counted_feed(feed, &sheet, &queries, &mut vec![0; queries.len()]), 0);
 }
@@ -40,7 +40,7 @@ pub fn count(folder: &Folder, counted: &str, words: &[&str]) -> Option<f64> {
 /// All but the literal Rust, which takes longest.
 const COUNTED: usize = CONTESTANTS.len() - 1;
 
-/// Of a feed by this contestant, or by ours the opening alone.
+/// Of a feed by this contestant; of ours also the opening alone, or with many indexes.
 pub fn count_feed(work: &Work, contestant: &str) -> Option<f64> {
     let folder = Folder::new("instructions");
     folder.write("sheet", &work.sheet);
@@ -48,20 +48,22 @@ pub fn count_feed(work: &Work, contestant: &str) -> Option<f64> {
     count(&folder, "counted_feed", &[contestant])
 }
 
+/// Those of the contestants, and the opening's last.
 fn counts_of(work: &Work) -> Option<Vec<f64>> {
-    let counts = CONTESTANTS[..COUNTED].iter().map(|(name, _)| count_feed(work, name));
-    let mut counts = counts.collect::<Option<Vec<f64>>>()?;
-    open_once(work, &mut counts, count_feed(work, "opening")?);
+    let names = CONTESTANTS[..COUNTED].iter().map(|(name, _)| *name).chain(["opening"]);
+    let mut counts = names.map(|name| count_feed(work, name)).collect::<Option<Vec<f64>>>()?;
+    let opening = counts[COUNTED];
+    open_once(work, &mut counts, opening);
     Some(counts)
 }
 
-/// The contestants' millions of instructions for each work, if they can be counted.
+/// The contestants' millions of instructions for each work and the opening's, if they can be counted.
 pub fn compare(grid: Grid, works: &[Work]) -> Option<Vec<Vec<f64>>> {
     let title = format!("{}: millions of instructions", on_grid(grid));
     heading(&title, &CONTESTANTS.map(|(name, _)| name)[..COUNTED]);
     let counted = |work: &Work| {
         let counts = counts_of(work);
-        counted_row(&work.name, counts.as_deref());
+        counted_row(&work.name, counts.as_ref().map(|counts| &counts[..COUNTED]));
         counts
     };
     let counts = works.iter().map(counted).collect();

@@ -58,7 +58,7 @@ fn main() {
     plot::draw(&works, &times);
     feeds::compare_single_calls();
     let counts = instructions::compare(Grid::Coarse, &works);
-    index::break_even(&works, &times, counts.as_deref());
+    index::break_even(&works, counts.as_deref());
     let hard = index::compare_hard_outlines();
     index::judge_index(&works, &times, counts.as_deref(), hard);
     let works = feeds::works(Grid::Fine);
