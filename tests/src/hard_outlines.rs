@@ -80,10 +80,10 @@ pub fn drawings(random: &mut Random, grid: Grid, sides: usize) -> Vec<Drawing> {
     drawn.map(drawing).into()
 }
 
-/// Known points amid the drawings, beside them, opposite and far from them: those on a side's circle are refused.
+/// Known points amid the drawings, opposite, beside them and far from them: those on a side's circle are refused.
 pub fn known_points(grid: Grid) -> [Point; 4] {
     let limit = grid.limit();
-    [[7, -3, limit], [limit / 3, limit / 5 + 1, limit], [11, 2, -limit], [limit, 3 - limit, -5]]
+    [[7, -3, limit], [11, 2, -limit], [limit / 3, limit / 5 + 1, limit], [limit, 3 - limit, -5]]
 }
 
 impl Drawing {
