@@ -97,7 +97,7 @@ fn narrow(plane: Plane) -> Point
 
 // The bucket of a query, by the plane of its arc and the first two rays. The plane's normal is a right angle ahead of
 // the query's direction.
-pub fn query_bucket(plane: Plane, lo: Point, hi: Point) -> usize
+pub(crate) fn query_bucket(plane: Plane, lo: Point, hi: Point) -> usize
     requires { ⌜ Sound plane × Within coarse lo × Within coarse hi ⌝ }
     ensures { λ r. ⌜ r < 1024 ⌝ }
 {
@@ -128,7 +128,7 @@ fn raise(buckets: &mut [u16]) {
 }
 
 // Number c of the buckets, which are 0, becomes how many nodes begin before bucket c.
-pub fn fill(rays: &[i32], nodes: usize, lo: Point, hi: Point, buckets: &mut [u16])
+pub(crate) fn fill(rays: &[i32], nodes: usize, lo: Point, hi: Point, buckets: &mut [u16])
     requires { ⌜ Rayed coarse (now rays) nodes × Within coarse lo × Within coarse hi ⌝ }
     requires { ⌜ (nodes < 65536) × (1025 ≤ length (now buckets)) ⌝ }
 {
