@@ -124,14 +124,14 @@ fn grow_root(
     let lo = root(frame, r);
     let hi = root(frame, r + 1);
     let to = first_list(grid, vertices, known, lo, hi, stack);
-    let quota = rest(880, 0, size.nodes) / (4 - r);
+    let quota = rest(640, 0, size.nodes) / (4 - r);
     let cone = Cone {
         from: 0,
         to: to,
         lo: lo,
         hi: hi,
         quota: quota,
-        depth: 16,
+        depth: 12,
     };
     grow(grid, vertices, known, rays, spans, list, stack, cone, size)
 }

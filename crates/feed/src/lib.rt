@@ -202,9 +202,9 @@ fn judge_by_index(
     ensures { λ _. ⌜ now (results .exit) ≡ sets (now (results .entry)) 0
         (feedBytes (limitOf grid) (now (vertices .entry)) known second (now (queries .entry))) ⌝ }
 {
-    let mut rays = [0i32; 5280];
+    let mut rays = [0i32; 3840];
     let mut buckets = [0u16; 1025];
-    let mut spans = [0u16; 1760];
+    let mut spans = [0u16; 1280];
     let mut list = [0u16; 11264];
     let mut stack = [0u16; 8192];
     let index = build(
