@@ -8,4 +8,5 @@ mod lists;
 mod near;
 pub mod query;
 mod table;
+mod told;
 mod walk;

@@ -13,7 +13,7 @@ ghost use Rattle.cones.specs.Table.{isBetween, Rayed, IndexOn};
 use crate::buckets::query_bucket;
 use crate::build::Index;
 use crate::lists::wide;
-use crate::near::tally_near;
+use crate::told::tally_near;
 use polygon::vertices::vertex_at;
 use search::arc::arc_between;
 use search::walk::Mode;

@@ -6,7 +6,6 @@ use native.Mathlib.Omega.{arith}
 use borrow.Author.Needs.{needs}
 use borrow.Author.Tests.{not-false}
 use lib.ListN.{length, getD}
-use Rattle.polygon.specs.Vertices.{vertexCount}
 use Rattle.cones.specs.Lists.{isBesideOf}
 use Rattle.cones.proofs.Laws.Near.{Gathering, gather-start, gather-drop, gather-copy, gather-end}
 use Rattle.cones.proofs.near.gather_exact.Statement.{statement}

@@ -4,7 +4,6 @@ use mathlib.Core.Bool.{Bool, true, false, _&&_, _||_, true≢false}
 use borrow.Author.Needs.{needs}
 use Rattle.sphere.specs.Approximate.{floatDotOf, isSurely}
 use Rattle.polygon.proofs.Laws.Edges.{end-within}
-use Rattle.cones.specs.Lists.{isBesideOf}
 use Rattle.cones.proofs.Laws.Near.{sure-beside}
 use Rattle.cones.proofs.near.surely_beside.Statement.{statement}
 use Rattle.cones.proofs.near.surely_beside.Tie as tie

@@ -11,11 +11,11 @@ use Rattle.search.specs.declared.walk.Tally.the-variants.{Crossed}
 use Rattle.search.specs.Arc.{arcOf, AcceptedArc}
 use Rattle.search.specs.Walk.{tallyFrom}
 use Rattle.search.proofs.Laws.Arc.{reference}
-use Rattle.cones.specs.Cones.{Idle, Complete, Told, OnCircle}
+use Rattle.cones.specs.Cones.{Told, OnCircle}
 use Rattle.cones.proofs.Laws.Covers.{entries}
 use Rattle.cones.proofs.Laws.Near.{near-complete, arc-accepted}
-use Rattle.cones.proofs.near.tally_exact.Statement.{statement}
-use Rattle.cones.proofs.near.tally_exact.Tie as tie
+use Rattle.cones.proofs.told.tally_exact.Statement.{statement}
+use Rattle.cones.proofs.told.tally_exact.Tie as tie
 
 gather-exact-requires : tie.Need-gather-exact-requires
 gather-exact-requires c κs =

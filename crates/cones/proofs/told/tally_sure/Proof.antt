@@ -4,8 +4,8 @@ use Rattle.polygon.proofs.Laws.Checks.{gridded-fine}
 use Rattle.search.proofs.Laws.Arc.{reference}
 use Rattle.cones.proofs.Laws.Covers.{entries}
 use Rattle.cones.proofs.Laws.Near.{near-complete}
-use Rattle.cones.proofs.near.tally_sure.Statement.{statement}
-use Rattle.cones.proofs.near.tally_sure.Tie as tie
+use Rattle.cones.proofs.told.tally_sure.Statement.{statement}
+use Rattle.cones.proofs.told.tally_sure.Tie as tie
 
 gather-sure-requires : tie.Need-gather-sure-requires
 gather-sure-requires c κs =

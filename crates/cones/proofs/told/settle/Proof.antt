@@ -1,7 +1,6 @@
 -- `settle` meets its contract: border is worked out only where the edge holds the query, as in walk's `is_on_border`.
-use mathlib.Core.Path.{_≡_, sym, ap, _∙_}
+use mathlib.Core.Path.{_≡_, sym, _∙_}
 use mathlib.Core.Bool.{true}
-use Prim.Native.Nat.{_+_, _≤_}
 use native.Mathlib.Omega.{arith}
 use borrow.Author.Needs.{needs}
 use Rattle.integers.specs.Sign.{signOf}
@@ -15,8 +14,8 @@ use Rattle.search.proofs.Laws.Arc.{reference}
 use Rattle.search.proofs.Laws.Coincident.{earlier-not-border}
 use Rattle.cones.proofs.Laws.Coincident.{list-coincident}
 use Rattle.cones.proofs.Laws.Near.{held-first}
-use Rattle.cones.proofs.near.settle.Statement.{statement}
-use Rattle.cones.proofs.near.settle.Tie as tie
+use Rattle.cones.proofs.told.settle.Statement.{statement}
+use Rattle.cones.proofs.told.settle.Tie as tie
 
 vertex-at-requires : tie.Need-vertex-at-requires
 vertex-at-requires c κs = omega (arith, c .before .pre .0 .1 .below)

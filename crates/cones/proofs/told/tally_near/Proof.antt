@@ -14,8 +14,8 @@ use Rattle.search.specs.Arc.{arcOf, AcceptedArc}
 use Rattle.search.specs.Walk.{tallyFrom}
 use Rattle.cones.specs.Cones.{Idle, Complete}
 use Rattle.cones.proofs.Laws.Near.{arc-accepted}
-use Rattle.cones.proofs.near.tally_near.Statement.{statement}
-use Rattle.cones.proofs.near.tally_near.Tie as tie
+use Rattle.cones.proofs.told.tally_near.Statement.{statement}
+use Rattle.cones.proofs.told.tally_near.Tie as tie
 
 enum-told : tie.Need-enum-told
 enum-told c = search needs

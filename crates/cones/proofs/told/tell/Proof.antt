@@ -8,32 +8,32 @@ use Prim.Native.Nat.{ℕ, _+_, _-_, _≤_, _<_}
 use native.Mathlib.Numerals.{add-one}
 use native.Mathlib.Omega.{arith}
 use borrow.Author.Needs.{needs}
-use lib.IntN.{ℤ, pos, _+ℤ_}
+use lib.IntN.{ℤ, _+ℤ_}
 use lib.ListN.{getD}
 use mir.Syntax.{w32, w64}
 use mir.Val.{SFits, toZ, ofZ}
 use mir.ValLaws.{toZ-ofZ}
-use Rattle.integers.specs.Sign.{signOf, nought}
-use Rattle.integers.proofs.Compare.{result-same, result-sign, zero-bits, zero-no}
+use Rattle.integers.specs.Sign.{signOf}
+use Rattle.integers.proofs.Compare.{result-sign, zero-bits, zero-no}
 use Rattle.sphere.specs.Point.{limitOf, Within}
-use Rattle.sphere.specs.Orientation.{orientationOf, dotOf}
+use Rattle.sphere.specs.Orientation.{orientationOf}
 use Rattle.sphere.proofs.Laws.Plane.{Made, plane-made, made-within, made-turn}
 use Rattle.polygon.specs.Vertices.{vertexCount, startOf, endOf}
 use Rattle.polygon.specs.Verdict.{isHeldBy, wayOf}
 use Rattle.polygon.proofs.Laws.Edges.{start-within, end-within}
 use Rattle.search.specs.declared.arc.Arc.{Arc}
 use Rattle.search.specs.declared.walk.EdgeTest.the-variants.{Way}
-use Rattle.search.specs.declared.walk.Tally.the-variants.{Held, Crossed}
+use Rattle.search.specs.declared.walk.Tally.the-variants.{Crossed}
 use Rattle.search.specs.Walk.{tallyFrom, NoneBefore}
 use Rattle.search.proofs.Laws.Arc.{arc-side, reference}
 use Rattle.search.proofs.Laws.EdgeTest.{way-by}
 use Rattle.search.proofs.Laws.Tally.{Tallied, tallied-end, tallied-few, tally-all, test-way, sum-fits}
 use Rattle.search.proofs.Laws.Tally.{none-start, none-before}
-use Rattle.cones.specs.Cones.{Idle, Covers, keep, Told, OnCircle}
+use Rattle.cones.specs.Cones.{Idle, Covers, keep, Told}
 use Rattle.cones.proofs.Laws.Covers.{AtEntry, covers-at, Walked, walk-start, walk-step}
 use Rattle.cones.proofs.Laws.Near.{off-not-on}
-use Rattle.cones.proofs.near.tell.Statement.{statement}
-use Rattle.cones.proofs.near.tell.Tie as tie
+use Rattle.cones.proofs.told.tell.Statement.{statement}
+use Rattle.cones.proofs.told.tell.Tie as tie
 
 -- Before entry e.
 record Come (vs : List ℤ) (arc : Arc) (l : List ℕ) (to crossed : ℕ) (sum : ℤ) (e : ℕ) : Type 0 where
@@ -85,10 +85,6 @@ module _ (c : tie.After-wide Inv-loop μ-loop) where
 
   below : c .wide .result < vertexCount vs
   below = omega (arith, c .wide .ensures, at .below)
-
-  none : NoneBefore vs (entry .args .arc .to) (c .wide .result)
-  none = subst (λ j. NoneBefore vs (entry .args .arc .to) j) (sym (c .wide .ensures))
-      (none-before _ _ _ (omega arith) (none-start _ _) (own .loop .inv .walked .tallied _ (at .before)))
 
 vertex-at-requires : tie.Need-vertex-at-requires Inv-loop μ-loop
 vertex-at-requires c κs = omega (arith, below c)
