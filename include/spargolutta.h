@@ -296,8 +296,8 @@ SPG_PURE uint32_t spg_judge_looked(const uint8_t *sheet, size_t sheet_len, int32
  * no query.
  *
  * A feed of at least 128 queries and one more for every eight sides builds an index first. That costs once as much as
- * some hundreds of queries, and then a query costs half to a fifth of what it costs in a shorter feed. No result depends
- * on it.
+ * some dozens to hundreds of queries, and then a query costs half to a seventh of what it costs in a shorter feed. No
+ * result depends on it.
  */
 SPG_USED uint32_t spg_feed_number(const uint8_t *sheet, size_t sheet_len, const uint8_t *queries, size_t queries_len,
                                   uint8_t *SPG_RESTRICT results, size_t results_len);

@@ -2,6 +2,7 @@
 //! for an index, which both go by the boxes. Outlines that are hard for cones about the known point, of any number of
 //! sides, and feeds at the length from which an index is built.
 
+mod few_azimuths;
 mod tiny;
 
 use crate::corridors::corridors;

@@ -1,12 +1,19 @@
 -- Laws of the definitions of specs/, a file for each topic.
+pub mod Part
+pub mod Quarter
+pub mod Seen
+pub mod Facing
+pub mod Frame
+pub mod Across
+pub mod Azimuth
 pub mod Plane
+pub mod Sectors
+pub mod SectorsTo
+pub mod Ranges
 pub mod Covers
 pub mod Coincident
-pub mod Halved
-pub mod Rays
-pub mod Shift
-pub mod Implied
 pub mod Pushed
 pub mod Split
 pub mod Index
 pub mod Near
+pub mod Close

@@ -1,14 +1,12 @@
--- Cones about the reference point X, and lists of edges that are complete for the queries of a cone: for the code
--- alone. A ray is a point, of which only the half plane from the line through X matters. Defined, in order: InCone;
--- Idle (an edge that a query does not notice), IdleIn; Covers, Complete (a list of edges); EarlierTell;
--- OnCircle, Told (what a loop over a complete list says).
+-- Lists of edges that are complete for a query, or for all that are in a cone: for the code alone. Defined, in order:
+-- Idle (an edge that a query does not notice); Covers, Complete (a list of edges); EarlierTell; OnCircle, Told (what a
+-- loop over a complete list says).
 use mathlib.Core.Path.{_≡_}
 use mathlib.Core.Bool.{true, false}
 use mathlib.Core.List.{List}
 use Prim.Native.Nat.{ℕ, suc, _≤_, _<_}
-use lib.IntN.{ℤ, pos}
+use lib.IntN.{ℤ}
 use lib.ListN.{length, getD}
-use lib.Signed.{_<ℤ_}
 use Rattle.integers.specs.Sign.{nought, signOf}
 use Rattle.sphere.specs.declared.point.Point.{Point}
 use Rattle.sphere.specs.Orientation.{orientationOf}
@@ -20,19 +18,10 @@ use Rattle.search.specs.declared.walk.Tally.{Tally}
 use Rattle.search.specs.declared.walk.Tally.the-variants.{Held, Crossed}
 use Rattle.search.specs.Walk.{tallyFrom, NoneBefore}
 
--- Strictly between the rays lo and hi.
-pub record InCone (X lo hi P : Point) : Type 0 where
-  pub after : pos 0 <ℤ orientationOf X lo P
-  pub before : orientationOf X hi P <ℤ pos 0
-
 -- The arc from X to P does not cross edge j, and P is not on it.
 pub record Idle (vs : List ℤ) (X P : Point) (j : ℕ) : Type 0 where
   pub uncrossed : crossingOf X P (startOf vs j) (endOf vs j) ≡ nought
   pub unheld : isHeldBy vs P j ≡ false
-
--- That of every query in a cone.
-abbrev pub IdleIn : List ℤ → Point → Point → Point → ℕ → Type 0
-IdleIn vs X lo hi j = (P : Point) → InCone X lo hi P → Idle vs X P j
 
 -- Each edge before i is an entry of the list, from entry a on before entry b, in rising order, or I holds of it.
 pub data Covers (I : ℕ → Type 0) (l : List ℕ) (a : ℕ) : ℕ → ℕ → Type 0 where

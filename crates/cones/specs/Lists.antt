@@ -1,33 +1,11 @@
--- Lists of edges, and parts of them: for the code alone. Defined, in order: Implies; isClear, isClearOf (an edge that
--- lies on the positive side of a plane), isBesideOf; Entries; Kept (a list without some entries), Framed, Filtered,
--- Sifted, Gathered.
+-- Parts of lists of edges: for the code alone. Defined, in order: Entries; Kept (a list without some entries), Framed,
+-- Filtered, Sifted, Gathered.
 use mathlib.Core.Path.{_≡_}
-use mathlib.Core.Bool.{Bool, true, _&&_}
+use mathlib.Core.Bool.{Bool, true}
 use mathlib.Core.List.{List}
 use Prim.Native.Nat.{ℕ, suc, _+_, _-_, _≤_, _<_}
-use lib.IntN.{ℤ}
 use lib.ListN.{length, getD}
-use Rattle.integers.specs.Sign.{Sign, signOf, isAtLeastZero}
-use Rattle.sphere.specs.declared.point.Point.{Point}
-use Rattle.sphere.specs.Orientation.{dotOf}
-use Rattle.sphere.specs.Crossing.{isBeside}
-use Rattle.polygon.specs.Vertices.{startOf, endOf}
 use Rattle.cones.specs.declared.lists.Part.{Part}
-
--- If the first test holds, so does the second.
-pub record Implies (a b : Bool) : Type 0 where
-  pub holds : a ≡ true → b ≡ true
-
--- Both ends of an edge are on a plane or on its positive side: by their sides, and by the plane's normal N.
-abbrev pub isClear : Sign → Sign → Bool
-isClear s t = isAtLeastZero s && isAtLeastZero t
-
-abbrev pub isClearOf : List ℤ → Point → ℕ → Bool
-isClearOf vs N j = isClear (signOf (dotOf N (startOf vs j))) (signOf (dotOf N (endOf vs j)))
-
--- Both ends are strictly on one side of it.
-abbrev pub isBesideOf : List ℤ → Point → ℕ → Bool
-isBesideOf vs N j = isBeside (signOf (dotOf N (startOf vs j))) (signOf (dotOf N (endOf vs j)))
 
 -- The entries from a on before b are below n.
 pub record Entries (n : ℕ) (l : List ℕ) (a b : ℕ) : Type 0 where

@@ -1,26 +1,21 @@
-// A query by the index. Here, in order: least, locate, guess (a node that may be the right one); is_between,
+// A query by the index. Here, in order: least, locate, guess (a node that may be the right one); Said, is_aside,
 // tally_edges.
 ghost use mathlib.Core.Path.{_≡_};
-ghost use Prim.Native.Nat.{_≤_, _<_};
-ghost use Rattle.sphere.specs.Point.{coarse, limitOf, Within};
-ghost use Rattle.sphere.specs.Plane.{Sound};
+ghost use Prim.Native.Nat.{_*_, _≤_, _<_};
+ghost use lib.ListN.{length};
+ghost use Rattle.sphere.specs.Point.{limitOf, Within};
 ghost use Rattle.answer.specs.declared.Check.the-variants.{Passed};
 ghost use Rattle.polygon.specs.Checks.{acceptCheck};
-ghost use Rattle.polygon.specs.Vertices.{vertexCount};
-ghost use Rattle.search.specs.Boxes.{Boxed};
-ghost use Rattle.search.specs.Walk.{tallyFrom};
-ghost use Rattle.cones.specs.Table.{isBetween, Rayed, IndexOn};
-use crate::buckets::query_bucket;
+ghost use Rattle.cones.specs.Azimuth.{AsideIf};
+ghost use Rattle.cones.specs.Said.{SaidOf};
+ghost use Rattle.cones.specs.Table.{Built};
+use crate::azimuth::azimuth_by;
 use crate::build::Index;
-use crate::lists::wide;
+use crate::sectors::wide;
+use crate::table::row_at;
 use crate::told::tally_near;
-use polygon::vertices::vertex_at;
-use search::arc::arc_between;
-use search::walk::Mode;
 use search::walk::Tally;
-use search::walk::search_edges;
-use sphere::plane::Plane;
-use sphere::plane::side_of;
+use sphere::orientation::dot;
 use sphere::point::Grid;
 use sphere::point::Point;
 
@@ -33,16 +28,16 @@ fn least(a: usize, b: usize) -> usize
     b
 }
 
-// Of the nodes from `from` on before `to`, which follow each other, where those end that begin before the query.
-fn locate(plane: Plane, rays: &[i32], nodes: usize, from: usize, to: usize) -> usize
-    requires { ⌜ Sound plane × Rayed (limitOf (plane .grid)) (now rays) nodes ⌝ }
+// Of the nodes from `from` on before `to`, which follow each other, where those end that begin by azimuth k.
+fn locate(table: &[u16], nodes: usize, from: usize, to: usize, k: usize) -> usize
+    requires { ⌜ nodes * 4 ≤ length (now table) ⌝ }
     ensures { λ r. ⌜ r ≤ nodes ⌝ }
 {
     let mut high = least(to, nodes);
     let mut low = least(from, high);
     while low < high {
         let middle = low + (high - low) / 2;
-        if side_of(plane, vertex_at(rays, middle * 2)) < 0 {
+        if wide(table[middle * 4]) <= k {
             low = middle + 1;
         } else {
             high = middle;
@@ -51,64 +46,76 @@ fn locate(plane: Plane, rays: &[i32], nodes: usize, from: usize, to: usize) -> u
     low
 }
 
-// The same of all nodes, by the bucket that the query is in.
-fn guess(plane: Plane, rays: &[i32], buckets: &[u16], index: Index) -> usize
-    requires { ⌜ Sound plane × Rayed (limitOf (plane .grid)) (now rays) (index .nodes) ⌝ }
-    requires { ⌜ Within coarse (index .lo) × Within coarse (index .hi) ⌝ }
-    ensures { λ r. ⌜ r ≤ index .nodes ⌝ }
+// The same of all nodes, by the bucket that the azimuth is in.
+fn guess(table: &[u16], buckets: &[u16], nodes: usize, k: usize) -> usize
+    requires { ⌜ nodes * 4 ≤ length (now table) ⌝ }
+    ensures { λ r. ⌜ r ≤ nodes ⌝ }
 {
-    let c = query_bucket(plane, index.lo, index.hi);
+    let c = k / 64;
     if c + 1 >= buckets.len() {
         return 0;
     }
     let from = wide(buckets[c]);
     let to = wide(buckets[c + 1]);
-    locate(plane, rays, index.nodes, from, to)
+    locate(table, nodes, from, to, k)
 }
 
-// The query is strictly between the two rays.
-fn is_between(plane: Plane, lo: Point, hi: Point) -> bool
-    requires { ⌜ Sound plane × Within (limitOf (plane .grid)) lo × Within (limitOf (plane .grid)) hi ⌝ }
-    ensures { λ r. ⌜ r ≡ isBetween (plane .normal) lo hi ⌝ }
+// What the index says of a query: nothing, or what all edges say.
+pub enum Said {
+    Nothing,
+    All(Tally),
+}
+
+// The coordinates along east and north are not both 0: in the direction of the reference point there is no azimuth.
+fn is_aside(u: i64, v: i64) -> bool
+    ensures { λ r. ⌜ AsideIf u v r ⌝ }
 {
-    if side_of(plane, lo) < 0 {
-        return side_of(plane, hi) > 0;
+    if u != 0 {
+        return true;
     }
-    false
+    v != 0
 }
 
-// What all edges say of a query: by a node, where the query is in its cone, or else by the boxes.
+// By a node, where the query is in its cone.
 pub fn tally_edges(
     grid: Grid,
     vertices: &[i32],
-    boxes: &[i32],
-    rays: &[i32],
+    sectors: &[u16],
+    table: &[u16],
     buckets: &[u16],
-    spans: &[u16],
     list: &[u16],
     near: &mut [u16],
     index: Index,
     known: Point,
     query: Point,
-    mode: Mode,
-) -> Tally
-    requires { ⌜ (acceptCheck (limitOf grid) (now vertices) known ≡ Passed) × Within (limitOf grid) query
-        × Boxed (now vertices) (now boxes) ⌝ }
-    requires { ⌜ IndexOn (now vertices) known (now rays) (now spans) (now list) index ⌝ }
-    ensures { λ r. ⌜ r ≡ tallyFrom (now (vertices .entry)) known query 0 (vertexCount (now (vertices .entry))) ⌝ }
+) -> Said
+    requires { ⌜ (acceptCheck (limitOf grid) (now vertices) known ≡ Passed) × Within (limitOf grid) query ⌝ }
+    requires { ⌜ Built (now vertices) known (now sectors) (now table) (now list) index ⌝ }
+    ensures { λ r. ⌜ SaidOf (now (vertices .entry)) known query r ⌝ }
 {
-    let arc = arc_between(grid, known, query, true);
-    let k = guess(arc.plane, rays, buckets, index);
-    if k > 0 {
-        let lo = vertex_at(rays, (k - 1) * 2);
-        let hi = vertex_at(rays, (k - 1) * 2 + 1);
-        if is_between(arc.plane, lo, hi) {
-            let from = wide(spans[(k - 1) * 2]);
-            let to = wide(spans[(k - 1) * 2 + 1]);
-            if to - from <= near.len() {
-                return tally_near(grid, vertices, known, query, list, from, to, near);
-            }
+    let frame = index.frame;
+    let u = dot(frame.east, query);
+    let v = dot(frame.north, query);
+    let k = azimuth_by(u, v);
+    let g = guess(table, buckets, index.nodes, k);
+    if is_aside(u, v) & (g > 0) {
+        let row = row_at(table, g - 1);
+        let from = row.from;
+        let to = row.to;
+        if (row.lo <= k) & (k <= row.last) & (to - from <= near.len()) {
+            return Said::All(tally_near(
+                grid,
+                vertices,
+                known,
+                query,
+                sectors,
+                k,
+                list,
+                from,
+                to,
+                near,
+            ));
         }
     }
-    search_edges(grid, vertices, boxes, known, query, mode).tally
+    Said::Nothing
 }

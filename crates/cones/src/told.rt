@@ -1,19 +1,18 @@
-// The second of two loops over a node's list, over the entries near the arc's plane alone. Here, in order: tell, settle;
-// tally_exact, tally_sure, tally_near.
+// The second of two loops over a node's list, over the entries whose edges span the query's azimuth alone. Here, in
+// order: tell, settle; tally_exact, tally_near.
 ghost use mathlib.Core.Path.{_≡_};
-ghost use Prim.Native.Nat.{_-_, _≤_};
+ghost use Prim.Native.Nat.{_-_, _≤_, _<_};
 ghost use lib.ListN.{length};
-ghost use Rattle.sphere.specs.declared.point.Grid.the-variants.{Fine};
-ghost use Rattle.sphere.specs.Point.{limitOf, Within};
+ghost use Rattle.sphere.specs.Point.{coarse, limitOf, Within};
 ghost use Rattle.answer.specs.declared.Check.the-variants.{Passed};
 ghost use Rattle.polygon.specs.Checks.{acceptCheck};
 ghost use Rattle.polygon.specs.Vertices.{vertexCount};
 ghost use Rattle.search.specs.Arc.{AcceptedArc};
 ghost use Rattle.search.specs.Walk.{tallyFrom};
 ghost use Rattle.cones.specs.Cones.{Idle, Complete, OnCircle, Told};
-use crate::lists::wide;
-use crate::near::gather_exact;
-use crate::near::gather_sure;
+ghost use Rattle.cones.specs.Sectors.{MissedIn, Telling};
+use crate::near::gather;
+use crate::sectors::wide;
 use crate::walk::is_border;
 use crate::walk::walk_list;
 use answer::Found;
@@ -83,62 +82,35 @@ fn settle(vertices: &[i32], arc: Arc, list: &[u16], to: usize, i: usize) -> Tall
     walk_list(vertices, arc, list, 0, to)
 }
 
-// By whole numbers, on the coarse grid. The arc is made again where the query lies on an edge's circle, so that the way
-// to all other queries need not store it.
-fn tally_exact(
-    vertices: &[i32],
-    arc: Arc,
-    list: &[u16],
-    from: usize,
-    to: usize,
-    near: &mut [u16],
-) -> Tally
-    requires { ⌜ AcceptedArc (now vertices) arc × (to - from ≤ length (now near)) ⌝ }
-    requires { ⌜ Complete (Idle (now vertices) (arc .from) (arc .to)) (vertexCount (now vertices)) (now list)
-        from to ⌝ }
-    ensures { λ r. ⌜ r ≡ tallyFrom (now (vertices .entry)) (arc .from) (arc .to) 0
-        (vertexCount (now (vertices .entry))) ⌝ }
+// On the coarse grid. The arc is made again where the query lies on an edge's circle, so that the way to all other
+// queries need not store it.
+fn tally_exact(vertices: &[i32], known: Point, query: Point, list: &[u16], to: usize) -> Tally
+    requires { ⌜ (acceptCheck coarse (now vertices) known ≡ Passed) × Within coarse query ⌝ }
+    requires { ⌜ Complete (Idle (now vertices) known query) (vertexCount (now vertices)) (now list) 0 to ⌝ }
+    ensures { λ r. ⌜ r ≡ tallyFrom (now (vertices .entry)) known query 0 (vertexCount (now (vertices .entry))) ⌝ }
 {
-    let plane = arc.plane;
-    let grid = plane.grid;
-    let end = gather_exact(vertices, plane, list, from, to, near);
-    match tell(vertices, arc, near, end) {
+    let arc = arc_between(Grid::Coarse, known, query, true);
+    match tell(vertices, arc, list, to) {
         Tally::Crossed(crossed, sum) => Tally::Crossed(crossed, sum),
         Tally::Held(i) => settle(
             vertices,
-            arc_between(grid, arc.from, arc.to, true),
-            near,
-            end,
+            arc_between(Grid::Coarse, known, query, true),
+            list,
+            to,
             i,
         ),
     }
 }
 
-// By floats first, on the fine grid.
-fn tally_sure(
-    vertices: &[i32],
-    arc: Arc,
-    list: &[u16],
-    from: usize,
-    to: usize,
-    near: &mut [u16],
-) -> Tally
-    requires { ⌜ AcceptedArc (now vertices) arc × (arc .plane .grid ≡ Fine) × (to - from ≤ length (now near)) ⌝ }
-    requires { ⌜ Complete (Idle (now vertices) (arc .from) (arc .to)) (vertexCount (now vertices)) (now list)
-        from to ⌝ }
-    ensures { λ r. ⌜ r ≡ tallyFrom (now (vertices .entry)) (arc .from) (arc .to) 0
-        (vertexCount (now (vertices .entry))) ⌝ }
-{
-    let end = gather_sure(vertices, arc.plane, list, from, to, near);
-    walk_list(vertices, arc, near, 0, end)
-}
-
-// What all edges say, by a list that is complete for the query.
+// What all edges say, by the entries from `from` on before `to` of a list that is complete for azimuth k, which is the
+// query's.
 pub fn tally_near(
     grid: Grid,
     vertices: &[i32],
     known: Point,
     query: Point,
+    sectors: &[u16],
+    k: usize,
     list: &[u16],
     from: usize,
     to: usize,
@@ -146,25 +118,19 @@ pub fn tally_near(
 ) -> Tally
     requires { ⌜ (acceptCheck (limitOf grid) (now vertices) known ≡ Passed) × Within (limitOf grid) query
         × (to - from ≤ length (now near)) ⌝ }
-    requires { ⌜ Complete (Idle (now vertices) known query) (vertexCount (now vertices)) (now list) from to ⌝ }
+    requires { ⌜ Telling (now vertices) known query (now sectors) k × (k < 65536) ⌝ }
+    requires { ⌜ Complete (MissedIn (now sectors) k k) (vertexCount (now vertices)) (now list) from to ⌝ }
     ensures { λ r. ⌜ r ≡ tallyFrom (now (vertices .entry)) known query 0 (vertexCount (now (vertices .entry))) ⌝ }
 {
+    let end = gather(vertices.len() / 3, sectors, k, list, from, to, near);
     match grid {
-        Grid::Coarse => tally_exact(
-            vertices,
-            arc_between(Grid::Coarse, known, query, true),
-            list,
-            from,
-            to,
-            near,
-        ),
-        Grid::Fine => tally_sure(
+        Grid::Coarse => tally_exact(vertices, known, query, near, end),
+        Grid::Fine => walk_list(
             vertices,
             arc_between(Grid::Fine, known, query, true),
-            list,
-            from,
-            to,
             near,
+            0,
+            end,
         ),
     }
 }

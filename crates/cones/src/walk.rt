@@ -14,7 +14,7 @@ ghost use Rattle.polygon.specs.Verdict.{isOnBorder, wayOf};
 ghost use Rattle.search.specs.Arc.{AcceptedArc};
 ghost use Rattle.search.specs.Walk.{testBy, tallyFrom, NoneBefore};
 ghost use Rattle.cones.specs.Cones.{Idle, Complete, EarlierTell};
-use crate::lists::wide;
+use crate::sectors::wide;
 use answer::Found;
 use polygon::border::coincident;
 use polygon::vertices::end_of;

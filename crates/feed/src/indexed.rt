@@ -8,6 +8,7 @@ ghost use Rattle.search.specs.Boxes.{Boxed};
 ghost use Rattle.cones.specs.Table.{IndexOn};
 use answer::Answer;
 use cones::build::Index;
+use cones::query::Said;
 use cones::query::tally_edges;
 use judging::judge::judge_boxed;
 use judging::judge::verdict_on;
@@ -17,15 +18,15 @@ use sphere::point::Grid;
 use sphere::point::Point;
 use sphere::point::is_off_grid;
 
-// The index is of the known point, and of queries on the grid that are not antipodal to it. The others, and all where
-// it has no nodes, are judged by the boxes.
+// The index is of the known point, and of queries on the grid that are not antipodal to it. The others, all where it
+// has no nodes, and those of which it says nothing are judged by the boxes.
 pub fn judge_indexed(
     grid: Grid,
     vertices: &[i32],
     boxes: &[i32],
-    rays: &[i32],
+    sectors: &[u16],
+    table: &[u16],
     buckets: &[u16],
-    spans: &[u16],
     list: &[u16],
     near: &mut [u16],
     index: Index,
@@ -36,7 +37,7 @@ pub fn judge_indexed(
 ) -> Answer
     requires { ⌜ (optionalCheck (limitOf grid) (now vertices) known second ≡ Passed)
         × Boxed (now vertices) (now boxes) ⌝ }
-    requires { ⌜ IndexOn (now vertices) known (now rays) (now spans) (now list) index ⌝ }
+    requires { ⌜ IndexOn (now vertices) known (now sectors) (now table) (now list) index ⌝ }
     ensures { λ r. ⌜ r ≡ answerOf (limitOf grid) (now (vertices .entry)) (judgeFrom known second query) query ⌝ }
 {
     if index.nodes == 0 {
@@ -48,18 +49,19 @@ pub fn judge_indexed(
     if antipodal(known, query) {
         return judge_boxed(grid, vertices, boxes, known, second, query, mode).answer;
     }
-    verdict_on(tally_edges(
+    match tally_edges(
         grid,
         vertices,
-        boxes,
-        rays,
+        sectors,
+        table,
         buckets,
-        spans,
         list,
         near,
         index,
         known,
         query,
-        mode,
-    ))
+    ) {
+        Said::Nothing => judge_boxed(grid, vertices, boxes, known, second, query, mode).answer,
+        Said::All(tally) => verdict_on(tally),
+    }
 }

@@ -101,9 +101,9 @@ fn judge_one(
     grid: Grid,
     vertices: &[i32],
     boxes: &[i32],
-    rays: &[i32],
+    sectors: &[u16],
+    table: &[u16],
     buckets: &[u16],
-    spans: &[u16],
     list: &[u16],
     near: &mut [u16],
     index: Index,
@@ -115,7 +115,7 @@ fn judge_one(
 )
     requires { ⌜ (optionalCheck (limitOf grid) (now vertices) known second ≡ Passed)
         × Boxed (now vertices) (now boxes) ⌝ }
-    requires { ⌜ IndexOn (now vertices) known (now rays) (now spans) (now list) index ⌝ }
+    requires { ⌜ IndexOn (now vertices) known (now sectors) (now table) (now list) index ⌝ }
     requires { ⌜ i < queryCount (now queries) ⌝ }
     requires { ⌜ roomNeeded (now queries) ≤ length (now results) ⌝ }
     ensures { λ _. ⌜ now (results .exit) ≡ sets (now (results .entry)) (i * 12)
@@ -128,9 +128,9 @@ fn judge_one(
         grid,
         vertices,
         boxes,
-        rays,
+        sectors,
+        table,
         buckets,
-        spans,
         list,
         near,
         index,
@@ -147,9 +147,9 @@ fn judge_all(
     grid: Grid,
     vertices: &[i32],
     boxes: &[i32],
-    rays: &[i32],
+    sectors: &[u16],
+    table: &[u16],
     buckets: &[u16],
-    spans: &[u16],
     list: &[u16],
     near: &mut [u16],
     index: Index,
@@ -160,7 +160,7 @@ fn judge_all(
 )
     requires { ⌜ (optionalCheck (limitOf grid) (now vertices) known second ≡ Passed)
         × Boxed (now vertices) (now boxes) ⌝ }
-    requires { ⌜ IndexOn (now vertices) known (now rays) (now spans) (now list) index ⌝ }
+    requires { ⌜ IndexOn (now vertices) known (now sectors) (now table) (now list) index ⌝ }
     requires { ⌜ roomNeeded (now queries) ≤ length (now results) ⌝ }
     ensures { λ _. ⌜ now (results .exit) ≡ sets (now (results .entry)) 0
         (feedBytes (limitOf grid) (now (vertices .entry)) known second (now (queries .entry))) ⌝ }
@@ -171,9 +171,9 @@ fn judge_all(
             grid,
             vertices,
             boxes,
-            rays,
+            sectors,
+            table,
             buckets,
-            spans,
             list,
             near,
             index,
@@ -202,18 +202,18 @@ fn judge_by_index(
     ensures { λ _. ⌜ now (results .exit) ≡ sets (now (results .entry)) 0
         (feedBytes (limitOf grid) (now (vertices .entry)) known second (now (queries .entry))) ⌝ }
 {
-    let mut rays = [0i32; 3840];
+    let mut sectors = [0u16; 8192];
+    let mut table = [0u16; 2560];
     let mut buckets = [0u16; 1025];
-    let mut spans = [0u16; 1280];
     let mut list = [0u16; 11264];
     let mut stack = [0u16; 8192];
     let index = build(
         grid,
         vertices,
         known,
-        &mut rays,
+        &mut sectors,
+        &mut table,
         &mut buckets,
-        &mut spans,
         &mut list,
         &mut stack,
     );
@@ -221,9 +221,9 @@ fn judge_by_index(
         grid,
         vertices,
         boxes,
-        &rays,
+        &sectors,
+        &table,
         &buckets,
-        &spans,
         &list,
         &mut stack,
         index,
@@ -277,7 +277,7 @@ pub fn judge_each(
         grid,
         vertices,
         boxes,
-        boxes,
+        &none,
         &none,
         &none,
         &none,

@@ -112,7 +112,7 @@ fn put_number(boxes: &mut [i32], at: usize, n: i64)
 }
 
 // A corner of a box: three numbers of the array.
-pub fn put_corner(boxes: &mut [i32], at: usize, p: Point)
+fn put_corner(boxes: &mut [i32], at: usize, p: Point)
     requires { ⌜ (at + 3 ≤ length (now boxes)) × Within fine p ⌝ }
     ensures { λ _. ⌜ now (boxes .exit) ≡ pointStored (now (boxes .entry)) at p ⌝ }
 {

@@ -1,49 +1,28 @@
--- A cone that is halved. Proved, in order: sifted-low, sifted-high (the lists of its halves), framed-on (a stack that
--- changed behind its list), half-on (a half, by its parts), room-after.
-use mathlib.Core.Path.{_≡_, subst}
+-- A cone that is halved. Defined: PartOf (what `half_of` says of a half). Proved, in order: room-after, framed-on (a
+-- stack that changed behind its list); half-on, lower-on (what is sifted for a half is complete for it).
+use mathlib.Core.Path.{_≡_}
 use mathlib.Core.List.{List}
-use Prim.Native.Nat.{ℕ}
+use Prim.Native.Nat.{ℕ, _+_, _≤_, _<_}
 use native.Mathlib.Omega.{arith}
-use lib.IntN.{ℤ}
 use lib.ListN.{length}
-use Rattle.sphere.specs.declared.point.Point.{Point}
-use Rattle.sphere.specs.Point.{coarse, Within}
-use Rattle.sphere.specs.Orientation.{crossOf}
-use Rattle.polygon.specs.Vertices.{vertexCount}
-use Rattle.polygon.proofs.Laws.Checks.{OffCircles}
 use Rattle.cones.specs.declared.lists.Part.{Part}
 use Rattle.cones.specs.declared.table.Cone.{Cone}
-use Rattle.cones.specs.Cones.{IdleIn, Complete}
-use Rattle.cones.specs.Lists.{isClearOf, Kept, Framed, Sifted}
-use Rattle.cones.specs.Table.{ConeOn, Halves, Halvable}
-use Rattle.cones.proofs.Laws.Covers.{covers-same}
-use Rattle.cones.proofs.Laws.Halved.{halved-low, halved-high}
+use Rattle.cones.specs.Cones.{Complete}
+use Rattle.cones.specs.Lists.{Framed, Sifted}
+use Rattle.cones.specs.Sectors.{isMissed, MissedIn}
+use Rattle.cones.specs.Table.{ConeOn, Halvable, HalfOf, LowerOf}
+use Rattle.cones.proofs.Laws.Covers.{covers-same, kept-covers}
+use Rattle.cones.proofs.Laws.Ranges.{missed-range}
 
-module _ (vs : List ℤ) (X : Point) (off : OffCircles vs X) (lo mid hi : Point) (h : Halves X lo mid hi)
-    {l m : List ℕ} {from to : ℕ} {part : Part} (N : Point) (s : Sifted (isClearOf vs N) l m from to part)
-    (all : Complete (IdleIn vs X lo hi) (vertexCount vs) l from to) where
-  kept : {n : Point} → N ≡ n → Kept (isClearOf vs n) l m from (part .from) to (part .to)
-  kept e = subst (λ n. Kept (isClearOf vs n) l m from (part .from) to (part .to)) e (s .kept)
+pub room-after : (l m : List ℕ) {cone : Cone} → length m ≡ length l → Halvable cone (length l) →
+    Halvable cone (length m)
+room-after l m e h = record { deep = h .deep; some = h .some; enough = omega (arith, e, h .enough) }
 
-  pub sifted-low : N ≡ crossOf X mid → Complete (IdleIn vs X lo mid) (vertexCount vs) m (part .from) (part .to)
-  sifted-low e = record {
-    some = s .some;
-    within = s .within;
-    covers = halved-low vs X off lo mid hi (h .low) (h .high) (h .wide) (all .covers) (kept e);
-  }
-
-  pub sifted-high : N ≡ crossOf mid X → Complete (IdleIn vs X mid hi) (vertexCount vs) m (part .from) (part .to)
-  sifted-high e = record {
-    some = s .some;
-    within = s .within;
-    covers = halved-high vs X off lo mid hi (h .low) (h .high) (h .wide) (all .covers) (kept e);
-  }
-
-pub framed-on : {vs : List ℤ} {X : Point} {l m : List ℕ} {cone : Cone} → Framed l m (cone .to) → ConeOn vs X l cone →
-    ConeOn vs X m cone
+pub framed-on : {n : ℕ} {sectors l m : List ℕ} {cone : Cone} → Framed l m (cone .to) → ConeOn n sectors l cone →
+    ConeOn n sectors m cone
 framed-on f c = record {
-  low = c .low;
-  high = c .high;
+  some = c .some;
+  below = c .below;
   complete = record {
     some = c .complete .some;
     within = omega (arith, f .room, c .complete .within);
@@ -51,15 +30,41 @@ framed-on f c = record {
   };
 }
 
-pub half-on : (vs : List ℤ) (X : Point) {m : List ℕ} {from to : ℕ} {lo hi : Point} (r : Cone) → r .from ≡ from →
-    r .to ≡ to → r .lo ≡ lo → r .hi ≡ hi → Within coarse lo → Within coarse hi →
-    Complete (IdleIn vs X lo hi) (vertexCount vs) m from to → ConeOn vs X m r
-half-on vs X r f t a b low high all = record {
-  low = rw a low;
-  high = rw b high;
-  complete = rw (f, t, a, b) all;
-}
+-- ---- a half r of it, with the azimuths from lo to last
+abbrev pub PartOf : Cone → Part → ℕ → ℕ → Cone → Type 0
+PartOf cone part lo last r =
+    (r .from ≡ part .from) × (r .to ≡ part .to) × (r .lo ≡ lo) × (r .last ≡ last) × (r .depth + 1 ≡ cone .depth)
 
-pub room-after : (l m : List ℕ) {cone : Cone} → length m ≡ length l → Halvable cone (length l) →
-    Halvable cone (length m)
-room-after l m e h = record { deep = h .deep; enough = omega (arith, e, h .enough) }
+module _ {n : ℕ} {sectors l m : List ℕ} {cone : Cone} (on : ConeOn n sectors l cone) {part : Part} (lo last : ℕ)
+    (least : cone .lo ≤ lo) (some : lo ≤ last) (most : last ≤ cone .last)
+    (s : Sifted (isMissed sectors lo last) l m (cone .from) (cone .to) part) (r : Cone) (p : PartOf cone part lo last r)
+  where
+    sifted : Complete (MissedIn sectors lo last) n m (part .from) (part .to)
+    sifted = record {
+      some = s .some;
+      within = s .within;
+      covers =
+          kept-covers {I = MissedIn sectors (cone .lo) (cone .last)} {J = MissedIn sectors lo last}
+          (λ j f k a b. f k (omega (arith, least, a)) (omega (arith, most, b))) n
+          (λ j h e. missed-range sectors lo last j (omega (arith, most, on .below)) e) (omega arith) (s .kept)
+          (on .complete .covers);
+    }
+
+    pub half-on : HalfOf n sectors m cone r
+    half-on = record {
+      on = record {
+        some = rw (p .2, p .3) some;
+        below = omega (arith, p .3, most, on .below);
+        complete = rw (p .0, p .1, p .2, p .3) sifted;
+      };
+      after = omega (arith, p .1, s .after);
+      shallower = p .4;
+    }
+
+    pub lower-on : last < cone .last → Halvable cone (length l) → LowerOf n sectors m cone r
+    lower-on rest h = record {
+      half = half-on;
+      first = omega (arith, p .3, least, some);
+      rest = omega (arith, p .3, rest);
+      halvable = room-after l m (s .framed .room) h;
+    }

@@ -1,10 +1,13 @@
 -- `judge_by_index` meets its contract: the index is the polygon's, from the known point.
 use mathlib.Core.Path.{_≡_}
+use Prim.Native.Nat.{_*_, _≤_}
 use native.Mathlib.Nat.{le-trans}
+use native.Mathlib.Omega.{arith}
 use borrow.Author.Needs.{needs}
 use Rattle.sphere.specs.Point.{limitOf}
 use Rattle.answer.specs.declared.Check.the-variants.{Passed}
 use Rattle.polygon.specs.Checks.{acceptCheck}
+use Rattle.polygon.specs.Vertices.{vertexCount}
 use Rattle.polygon.proofs.Laws.Checks.{accept-passed}
 use Rattle.polygon.proofs.Laws.Pair.{optional-first}
 use Rattle.feed.proofs.judge_by_index.Statement.{statement}
@@ -30,11 +33,13 @@ slice-aggregate-build-4 c = search needs
 slice-aggregate-build-5 : tie.Need-slice-aggregate-build-5
 slice-aggregate-build-5 c = search needs
 
--- The stack has room for all edges.
+-- The spans and the stack have room for all edges.
 build-requires : tie.Need-build-requires
 build-requires c κs =
     let s = c .before .before .before .before .before .before .before in
-    ((accepted s, le-trans (accept-passed (accepted s) .listed .most) (search needs)), (search needs, search needs))
+    let most = accept-passed (accepted s) .listed .most in
+    let twice : vertexCount (s .args .vertices .now) * 2 ≤ 8192 = omega (arith, most) in
+    ((accepted s, le-trans twice (search needs), le-trans most (search needs)), (search needs, search needs))
 
 slice-aggregate-judge-all : tie.Need-slice-aggregate-judge-all
 slice-aggregate-judge-all c = search needs
@@ -55,7 +60,7 @@ judge-all-requires : tie.Need-judge-all-requires
 judge-all-requires c κs =
     let b = c .before .before .before .before .before .before .before .before .before .before .before in
     let s = b .before .before .before .before .before .before .before .before in
-    (s .pre .0, (b .build .ensures, s .pre .1))
+    (s .pre .0, (record { built = λ h. b .build .ensures }, s .pre .1))
 
 same-length : tie.Need-same-length
 same-length c = search needs

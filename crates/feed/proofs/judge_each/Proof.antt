@@ -47,12 +47,15 @@ slice-aggregate-judge-all-3 c = search needs
 slice-aggregate-judge-all-4 : tie.Need-slice-aggregate-judge-all-4
 slice-aggregate-judge-all-4 c = search needs
 
+slice-aggregate-judge-all-5 : tie.Need-slice-aggregate-judge-all-5
+slice-aggregate-judge-all-5 c = search needs
+
 no-index-requires : tie.Need-no-index-requires
 no-index-requires c κs = search needs
 
 judge-all-requires : tie.Need-judge-all-requires
 judge-all-requires c κs =
-    let s = c .before .before .before .before .before .before .before .before .before in
+    let s = c .before .before .before .before .before .before .before .before .before .before in
     (s .pre .0, (rw (c .before .no-index .ensures) (none-on _ _ _ _ _), s .pre .1))
 
 same-length-3 : tie.Need-same-length-3
@@ -78,6 +81,7 @@ judge-each-spec =
     slice-aggregate-judge-all-2
     slice-aggregate-judge-all-3
     slice-aggregate-judge-all-4
+    slice-aggregate-judge-all-5
     no-index-requires
     judge-all-requires
     same-length-3

@@ -13,11 +13,11 @@ use Rattle.feed.proofs.judge_one.Tie as tie
 
 -- The single call's answer.
 answered : (c : tie.After-judge-indexed) →
-    let s = c .before .before .before .before .before .before .before .before .before .before .args in
+    let s = c .before .before .before .before .before .before .before .before .before .before .before .args in
     let P = queryAt (s .queries .now) (s .i) in
     c .judge-indexed .result ≡ answerOf (limitOf (s .grid)) (s .vertices .now) (judgeFrom (s .known) (s .second) P) P
 answered c =
-    let s = c .before .before .before .before .before .before .before .before .before .before .args in
+    let s = c .before .before .before .before .before .before .before .before .before .before .before .args in
     c .judge-indexed .ensures
     ∙ ap (λ P. answerOf (limitOf (s .grid)) (s .vertices .now) (judgeFrom (s .known) (s .second) P) P)
     (c .before .before .before .point-at .ensures)
@@ -33,11 +33,11 @@ mode-for-requires c κs = search needs
 
 judge-indexed-requires : tie.Need-judge-indexed-requires
 judge-indexed-requires c κs =
-    let s = c .before .before .before .before .before .before .before .before .before in (s .pre .0, s .pre .1 .0)
+    let s = c .before .before .before .before .before .before .before .before .before .before in (s .pre .0, s .pre .1 .0)
 
 store-result-requires : tie.Need-store-result-requires
 store-result-requires c κs =
-    let s = c .before .before .before .before .before .before .before .before .before .before .before .before .before in
+    let s = c .before .before .before .before .before .before .before .before .before .before .before .before .before .before in
     let i = s .args in
     let accepted = judge-accepted (limitOf (i .grid)) (i .vertices .now) (i .known) (i .second) (s .pre .0 .0) _ in (
       omega (arith, s .pre .1 .1 .0, s .pre .1 .1 .1),

@@ -1,34 +1,31 @@
 -- `mark` stays within the arrays.
 use mathlib.Core.Path.{_≡_}
-use Prim.Native.Nat.{_*_, _-_, _≤_}
-use native.Mathlib.Omega.{arith}
+use Prim.Native.Nat.{_-_, _≤_}
 use borrow.Author.Needs.{needs}
 use lib.ListN.{length}
-use Rattle.sphere.proofs.Laws.Grid.{within-more}
 use Rattle.cones.proofs.buckets.mark.Statement.{statement}
 use Rattle.cones.proofs.buckets.mark.Tie as tie
 
 abbrev Inv-loop : tie.InvT-loop
-Inv-loop rays nodes lo hi buckets₀ k₀ buckets k = (k ≤ nodes) × (length buckets ≡ length buckets₀)
+Inv-loop table nodes buckets₀ k₀ buckets k = (k ≤ nodes) × (length buckets ≡ length buckets₀)
 
 abbrev μ-loop : tie.MeasureT-loop
-μ-loop rays nodes lo hi buckets₀ k₀ buckets k = nodes - k
+μ-loop table nodes buckets₀ k₀ buckets k = nodes - k
 
 loop-holds : tie.Need-loop-holds Inv-loop μ-loop
 loop-holds c = search needs
 
-mul-vertex-at : tie.Need-mul-vertex-at Inv-loop μ-loop
-mul-vertex-at c = search needs
+mul-wide : tie.Need-mul-wide Inv-loop μ-loop
+mul-wide c = search needs
 
-vertex-at-requires : tie.Need-vertex-at-requires Inv-loop μ-loop
-vertex-at-requires c κs = search needs
+mul-wide-2 : tie.Need-mul-wide-2 Inv-loop μ-loop
+mul-wide-2 c = search needs
 
-bucket-by-requires : tie.Need-bucket-by-requires Inv-loop μ-loop
-bucket-by-requires c κs =
-    let t = c .before in
-    let s = t .before .before .before in
-    let ray = s .pre .0 .0 .each (t .before .loop .k * 2) (omega (arith, t .loop-test .taken)) in
-    (rw (c .vertex-at .ensures) (within-more (omega arith) ray), s .pre .0 .1, s .pre .0 .2)
+shared-slice-read-wide : tie.Need-shared-slice-read-wide Inv-loop μ-loop
+shared-slice-read-wide c = search needs
+
+wide-requires : tie.Need-wide-requires Inv-loop μ-loop
+wide-requires c κs = search needs
 
 add-buckets : tie.Need-add-buckets Inv-loop μ-loop
 add-buckets c = search needs
@@ -67,9 +64,10 @@ mark-spec =
     Inv-loop
     μ-loop
     loop-holds
-    mul-vertex-at
-    vertex-at-requires
-    bucket-by-requires
+    mul-wide
+    mul-wide-2
+    shared-slice-read-wide
+    wide-requires
     add-buckets
     cast-buckets
     add-buckets-2

@@ -1,7 +1,6 @@
 -- `raise` stays within the array.
 use mathlib.Core.Path.{_≡_}
 use Prim.Native.Nat.{_-_, _≤_}
-use native.Mathlib.Omega.{arith}
 use borrow.Author.Needs.{needs}
 use lib.ListN.{length}
 use Rattle.cones.proofs.buckets.raise.Statement.{statement}

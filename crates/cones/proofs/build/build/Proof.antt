@@ -1,33 +1,44 @@
 -- `build` meets its contract: the buckets are a hint.
-use native.Mathlib.Omega.{arith}
-use Rattle.sphere.proofs.Laws.Plane.{grid→fine}
-use Rattle.polygon.proofs.Laws.Checks.{accept-passed}
 use borrow.Author.Needs.{needs}
+use Rattle.sphere.specs.Point.{fine, limitOf, Within}
+use Rattle.sphere.proofs.Laws.Plane.{grid→fine}
+use Rattle.polygon.specs.Accepted.{Accepted}
+use Rattle.polygon.proofs.Laws.Checks.{gridded-fine, accept-passed, accepted-some}
 use Rattle.cones.proofs.build.build.Statement.{statement}
 use Rattle.cones.proofs.build.build.Tie as tie
 
+-- The polygon and the reference point, on either grid.
+module _ (s : tie.Start) where
+  accepted : Accepted (limitOf (s .args .grid)) (s .args .vertices .now) (s .args .known)
+  accepted = accept-passed (s .pre .0 .0)
+
+  known : Within fine (s .args .known)
+  known = grid→fine (s .args .grid) (accepted .known)
+
 frame-of-requires : tie.Need-frame-of-requires
 frame-of-requires c κs =
-    let s = c .before .before .before .before in grid→fine (s .args .grid) (accept-passed (s .pre .0 .0) .known)
+    let s = c .before .before .before .before .before in
+    (known s, accepted-some (limitOf (s .args .grid)) (s .args .vertices .now) (s .args .known) (s .pre .0 .0))
+
+put-sectors-requires : tie.Need-put-sectors-requires
+put-sectors-requires c κs =
+    let f = c .before in
+    let s = f .before .before .before .before .before .before in
+    let w = f .frame-of .ensures .within fine (known s) in (
+      accepted s .listed,
+      gridded-fine (s .args .grid) (accepted s .gridded),
+      record { east = w .0; north = w .1 },
+      s .pre .0 .1,
+    )
 
 grow-roots-requires : tie.Need-grow-roots-requires
-grow-roots-requires c κs = search needs
-
-root-requires : tie.Need-root-requires
-root-requires c κs = search needs
-
-root-requires-2 : tie.Need-root-requires-2
-root-requires-2 c κs = search needs
+grow-roots-requires c κs =
+    let p = c .before .before .before .before .before .before in
+    let s = p .before .before .before .before .before .before .before .before in
+    (accepted s .listed .most, p .put-sectors .ensures .room, s .pre .0 .2)
 
 fill-requires : tie.Need-fill-requires
-fill-requires c κs =
-    let r = c .before .before in
-    let g = r .before .before .before .before .before .before .before .before .before in
-    let s = g .before .before .before .before .before .before .before .before .before .before in
-    let i = g .grow-roots .ensures in (
-      (record { room = i .rays-room; each = i .gridded }, r .before .root .ensures, r .root2 .ensures),
-      (omega (arith, i .rays-room, g .grow-roots .kept .1 .1 .1 .0, s .pre .1 .0), s .pre .1 .1),
-    )
+fill-requires c κs = search needs
 
 same-length : tie.Need-same-length
 same-length c = search needs
@@ -52,9 +63,8 @@ build-spec =
     tie.close
     (tie.spec
     frame-of-requires
+    put-sectors-requires
     grow-roots-requires
-    root-requires
-    root-requires-2
     fill-requires
     same-length
     same-length-2

@@ -4,48 +4,45 @@ use mathlib.Core.List.{List}
 use Prim.Native.Nat.{ℕ, _-_, _≤_}
 use native.Mathlib.Omega.{arith}
 use borrow.Author.Needs.{needs}
-use lib.IntN.{ℤ}
 use lib.ListN.{length}
-use Rattle.sphere.specs.declared.point.Point.{Point}
 use Rattle.cones.specs.Table.{Indexed}
 use Rattle.cones.proofs.Laws.Index.{none-indexed}
 use Rattle.cones.proofs.build.grow_roots.Statement.{statement}
 use Rattle.cones.proofs.build.grow_roots.Tie as tie
 
 -- Before cone r.
-record Grown (vs : List ℤ) (X : Point) (rays₀ : List ℤ) (spans₀ list₀ stack₀ : List ℕ) (rays : List ℤ)
-    (spans list stack : List ℕ) (nodes top r : ℕ) : Type 0 where
+record Grown (n : ℕ) (sectors table₀ list₀ stack₀ table list stack : List ℕ) (nodes top r : ℕ) : Type 0 where
   most : r ≤ 4
-  indexed : Indexed vs X rays spans list nodes top
-  same-rays : length rays ≡ length rays₀
-  same-spans : length spans ≡ length spans₀
+  indexed : Indexed n sectors table list nodes top
+  same-table : length table ≡ length table₀
   same-list : length list ≡ length list₀
   same-stack : length stack ≡ length stack₀
 
 abbrev Inv-loop : tie.InvT-loop
-Inv-loop grid vertices known rays₀ spans₀ list₀ stack₀ frame size₀ r₀ rays spans list stack size r =
-    Grown vertices known rays₀ spans₀ list₀ stack₀ rays spans list stack (size .nodes) (size .top) r
+Inv-loop n sectors table₀ list₀ stack₀ size₀ r₀ table list stack size r =
+    Grown n sectors table₀ list₀ stack₀ table list stack (size .nodes) (size .top) r
 
 abbrev μ-loop : tie.MeasureT-loop
-μ-loop grid vertices known rays₀ spans₀ list₀ stack₀ frame size₀ r₀ rays spans list stack size r = 4 - r
+μ-loop n sectors table₀ list₀ stack₀ size₀ r₀ table list stack size r = 4 - r
 
 loop-holds : tie.Need-loop-holds Inv-loop μ-loop
 loop-holds c = record {
   most = omega arith;
-  indexed = none-indexed _ _ _ _ _;
-  same-rays = refl;
-  same-spans = refl;
+  indexed = none-indexed _ _ _ _;
+  same-table = refl;
   same-list = refl;
   same-stack = refl;
 }
 
 grow-root-requires : tie.Need-grow-root-requires Inv-loop μ-loop
 grow-root-requires c κs =
-    let t = c .before .before .before .before in
+    let t = c .before .before .before in
     let l = t .before in
-    let s = l .before .before .before .before in
-    let i = l .loop .inv in
-    ((s .pre .0, omega (arith, t .loop-test .taken), rw (i .same-stack) (s .pre .1)), i .indexed)
+    let s = l .before .before .before .before .before in
+    let i = l .loop .inv in (
+      (s .pre .0, s .pre .1, rw (i .same-stack) (s .pre .2), omega (arith, t .loop-test .taken)),
+      i .indexed,
+    )
 
 add-r : tie.Need-add-r Inv-loop μ-loop
 add-r c = search needs
@@ -55,28 +52,24 @@ loop-less c = search needs
 
 loop-again : tie.Need-loop-again Inv-loop μ-loop
 loop-again c =
-    let q = c .before .before .before .before .before .before .before in
+    let q = c .before .before .before .before .before .before in
     let g = q .grow-root in
-    let i = q .before .before .before .before .before .before .loop .inv in record {
+    let i = q .before .before .before .before .before .loop .inv in record {
       most = omega arith;
       indexed = g .ensures;
-      same-rays = g .kept .1 .1 .1 .0 ∙ i .same-rays;
-      same-spans = g .kept .1 .1 .1 .1 .0 ∙ i .same-spans;
-      same-list = g .kept .1 .1 .1 .1 .1 .0 ∙ i .same-list;
-      same-stack = g .kept .1 .1 .1 .1 .1 .1 .0 ∙ i .same-stack;
+      same-table = g .kept .1 .1 .0 ∙ i .same-table;
+      same-list = g .kept .1 .1 .1 .0 ∙ i .same-list;
+      same-stack = g .kept .1 .1 .1 .1 .0 ∙ i .same-stack;
     }
 
 same-length : tie.Need-same-length Inv-loop μ-loop
-same-length c = c .before .loop .inv .same-rays
+same-length c = c .before .loop .inv .same-table
 
 same-length-2 : tie.Need-same-length-2 Inv-loop μ-loop
-same-length-2 c = c .before .loop .inv .same-spans
+same-length-2 c = c .before .loop .inv .same-list
 
 same-length-3 : tie.Need-same-length-3 Inv-loop μ-loop
-same-length-3 c = c .before .loop .inv .same-list
-
-same-length-4 : tie.Need-same-length-4 Inv-loop μ-loop
-same-length-4 c = c .before .loop .inv .same-stack
+same-length-3 c = c .before .loop .inv .same-stack
 
 returns : tie.Need-returns Inv-loop μ-loop
 returns c = c .before .loop .inv .indexed
@@ -95,5 +88,4 @@ grow-roots-spec =
     same-length
     same-length-2
     same-length-3
-    same-length-4
     returns)

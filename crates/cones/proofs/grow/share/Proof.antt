@@ -25,9 +25,6 @@ mul-part c =
 add-part : tie.Need-add-part
 add-part c = search needs
 
-add-part-2 : tie.Need-add-part-2
-add-part-2 c = search needs
-
 div-part : tie.Need-div-part
 div-part c = search needs
 
@@ -39,5 +36,4 @@ returns-5 c = search needs
 
 pub share-spec : {M : Type 1} → statement M
 share-spec =
-    tie.close
-    (tie.spec returns returns-2 returns-3 mul-part add-part add-part-2 div-part returns-4 returns-5)
+    tie.close (tie.spec returns returns-2 returns-3 mul-part add-part div-part returns-4 returns-5)

@@ -1,170 +1,157 @@
--- `tally_edges` meets its contract: two sides certify the node, and its list is complete.
-use mathlib.Core.Path.{_≡_, sym, _∙_, ap, subst}
-use mathlib.Core.Bool.{true}
-use Prim.Native.Nat.{ℕ, _+_, _*_, _-_, _<_}
+-- `tally_edges` meets its contract: the query's azimuth is in the node's cone, for which its list is complete.
+use mathlib.Core.Path.{_≡_, sym, _∙_, ap₂, subst}
+use mathlib.Core.Bool.{true, _&&_}
+use Prim.Native.Nat.{ℕ, _*_, _-_, _≤_, _<_}
 use native.Mathlib.Omega.{arith}
 use borrow.Author.Needs.{needs}
-use Rattle.polygon.specs.Vertices.{vertexAt}
-use Rattle.polygon.proofs.Laws.Checks.{reference-accepted, accept-passed}
-use Rattle.sphere.specs.Point.{limitOf, Within}
-use Rattle.sphere.specs.Plane.{planeOf}
-use Rattle.search.specs.Arc.{arcOf, AcceptedArc}
-use Rattle.search.proofs.Laws.Arc.{arc-searchable}
-use Rattle.cones.specs.Table.{Node, isBetween}
-use Rattle.cones.proofs.Laws.Halved.{certified}
-use Rattle.cones.proofs.Laws.Index.{index-rayed, between}
-use Rattle.cones.proofs.Laws.Rays.{coarse→grid}
+use borrow.Author.Tests.{ltb-true, leb-true}
+use lib.Dec.{ltb, leb}
+use lib.IntN.{pos}
+use lib.ListN.{length}
+use mir.Syntax.{w64}
+use mir.Val.{toZ, ofZ}
+use Rattle.integers.proofs.Compare.{result-same}
+use Rattle.sphere.specs.Point.{fine, Fits, Within}
+use Rattle.sphere.specs.Orientation.{dotOf}
+use Rattle.sphere.proofs.Laws.Grid.{points-dot}
+use Rattle.sphere.proofs.Laws.Plane.{grid→fine}
+use Rattle.answer.proofs.Laws.Chain.{both-true}
+use Rattle.polygon.specs.Vertices.{vertexCount}
+use Rattle.polygon.proofs.Laws.Checks.{accept-passed, reference-accepted}
+use Rattle.cones.specs.Azimuth.{seen, azimuthBy, azimuthOf, AsideIf, Aside}
+use Rattle.cones.specs.Table.{Node}
+use Rattle.cones.proofs.Laws.Azimuth.{azimuth-below}
+use Rattle.cones.proofs.Laws.Index.{row-complete}
+use Rattle.cones.proofs.Laws.SectorsTo.{dot-seen}
+use Rattle.cones.proofs.Laws.Sectors.{telling}
 use Rattle.cones.proofs.query.tally_edges.Statement.{statement}
 use Rattle.cones.proofs.query.tally_edges.Tie as tie
 
-arc-between-requires : tie.Need-arc-between-requires
-arc-between-requires c κs = let s = c .before .before .before .before in (accept-passed (s .pre .0 .0) .known, s .pre .0 .1)
+-- The frame and the query are within the fine grid.
+module _ (s : tie.Start) where
+  asked : Within fine (s .args .query)
+  asked = grid→fine (s .args .grid) (s .pre .0 .1)
 
--- The arc.
-module _ (c : tie.After-arc-between) where
+  frame : Within fine (s .args .index .frame .east) × Within fine (s .args .index .frame .north)
+  frame = s .pre .1 .frame .within fine (grid→fine (s .args .grid) (accept-passed (s .pre .0 .0) .known))
+
+dot-requires : tie.Need-dot-requires
+dot-requires c κs =
+    let s = c .before .before .before .before .before .before in points-dot (frame s .0) (asked s)
+
+dot-requires-2 : tie.Need-dot-requires-2
+dot-requires-2 c κs =
+    let s = c .before .before .before .before .before .before .before in points-dot (frame s .1) (asked s)
+
+-- The coordinates of the query, as the two locals hold them.
+module _ (c : tie.After-dot2) where
   abbrev start : tie.Start
-  start = c .before .before .before .before .before
+  start = c .before .before .before .before .before .before .before .before
 
-  aimed : AcceptedArc (start .args .vertices .now) (c .arc-between .result)
-  aimed =
-      arc-searchable (start .args .grid) (start .args .known) (start .args .query) true
-      (start .pre .0 .0) (start .pre .0 .1) (start .pre .0 .2) (c .arc-between .ensures) .aimed
+  along-east : toZ w64 (ofZ w64 (c .before .dot .result)) ≡ dotOf (start .args .index .frame .east) (start .args .query)
+  along-east = result-same w64 (c .before .dot .result) (c .before .dot .ok) (c .before .dot .ensures)
+
+  along-north : toZ w64 (ofZ w64 (c .dot2 .result)) ≡ dotOf (start .args .index .frame .north) (start .args .query)
+  along-north = result-same w64 (c .dot2 .result) (c .dot2 .ok) (c .dot2 .ensures)
+
+azimuth-by-requires : tie.Need-azimuth-by-requires
+azimuth-by-requires c κs =
+    let s = start c in
+    let f = s .args .index .frame in (
+      subst (Fits seen) (sym (along-east c)) (dot-seen (f .east) (s .args .query) (frame s .0) (asked s)),
+      subst (Fits seen) (sym (along-north c)) (dot-seen (f .north) (s .args .query) (frame s .1) (asked s)),
+    )
 
 guess-requires : tie.Need-guess-requires
-guess-requires c κs =
-    let s = start c in
-    let g = c .arc-between .result .plane .grid in (
-      (aimed c .sound .sound, index-rayed g (s .pre .1 .indexed)),
-      (s .pre .1 .low, s .pre .1 .high),
-    )
+guess-requires c κs = search needs
+
+is-aside-requires : tie.Need-is-aside-requires
+is-aside-requires c κs = search needs
 
 -- The node is there.
 module _ (t : tie.Then1) where
-  abbrev arc : tie.After-arc-between
-  arc = t .before .before
+  abbrev found : tie.After-guess
+  found = t .before .before
+
+  abbrev two : tie.After-dot2
+  two = found .before .before
 
   abbrev k : ℕ
-  k = t .before .guess .result - 1
+  k = found .guess .result - 1
 
-  below : k < start arc .args .index .nodes
-  below = omega (arith, t .if1 .taken, t .before .guess .ensures)
+  both : (t .before .is-aside .result ≡ true) × (ltb 0 (found .guess .result) ≡ true)
+  both = both-true (t .before .is-aside .result) (ltb 0 (found .guess .result)) (t .if1 .taken)
 
-  most : start arc .args .index .nodes * 2 < 9223372036854775808
-  most = omega (arith, below, start arc .pre .1 .indexed .spans-room)
+  some : 0 < found .guess .result
+  some = ltb-true 0 (found .guess .result) (both .1)
 
-  ray : (j : ℕ) → j < start arc .args .index .nodes * 2 →
-      Within (limitOf (arc .arc-between .result .plane .grid)) (vertexAt (start arc .args .rays .now) j)
-  ray j h = coarse→grid (arc .arc-between .result .plane .grid) (start arc .pre .1 .indexed .gridded j h)
+  below : k < start two .args .index .nodes
+  below = omega (arith, some, found .guess .ensures)
 
-sub-vertex-at : tie.Need-sub-vertex-at
-sub-vertex-at c = search needs
+  room : found .guess .result * 4 ≤ length (start two .args .table .now)
+  room = omega (arith, found .guess .ensures, start two .pre .1 .indexed .table-room)
 
-mul-vertex-at : tie.Need-mul-vertex-at
-mul-vertex-at c = omega (arith, below c, start (arc c) .pre .1 .indexed .rays-room)
+sub-row-at : tie.Need-sub-row-at
+sub-row-at c = some c
 
-vertex-at-requires : tie.Need-vertex-at-requires
-vertex-at-requires c κs = omega (arith, below c, start (arc c) .pre .1 .indexed .rays-room)
+row-at-requires : tie.Need-row-at-requires
+row-at-requires c κs = omega (arith, some c, room c)
 
-sub-vertex-at-2 : tie.Need-sub-vertex-at-2
-sub-vertex-at-2 c = search needs
-
-mul-vertex-at-2 : tie.Need-mul-vertex-at-2
-mul-vertex-at-2 c = let t = c .before in omega (arith, below t, most t)
-
-add-vertex-at : tie.Need-add-vertex-at
-add-vertex-at c = let t = c .before in omega (arith, below t, most t)
-
-vertex-at-requires-2 : tie.Need-vertex-at-requires-2
-vertex-at-requires-2 c κs = let t = c .before in omega (arith, below t, start (arc t) .pre .1 .indexed .rays-room)
-
-is-between-requires : tie.Need-is-between-requires
-is-between-requires c κs =
-    let t = c .before .before in (
-      aimed (arc t) .sound .sound,
-      rw (c .before .vertex-at .ensures) (ray t (k t * 2) (omega (arith, below t))),
-      rw (c .vertex-at2 .ensures) (ray t (k t * 2 + 1) (omega (arith, below t))),
-    )
-
--- Where the query is in its cone.
-module _ (t : tie.Then2) where
-  abbrev two : tie.After-vertex-at2
-  two = t .before .before
-
-  abbrev found : tie.Then1
-  found = two .before .before
+-- The query's azimuth, and the node.
+module _ (r : tie.After-row-at) where
+  abbrev one : tie.Then1
+  one = r .before
 
   abbrev s : tie.Start
-  s = start (arc found)
+  s = start (two one)
 
-  node : Node (s .args .vertices .now) (s .args .known) (s .args .rays .now) (s .args .spans .now) (s .args .list .now)
-      (k found)
-  node = s .pre .1 .indexed .each (k found) (below found)
+  abbrev at : ℕ
+  at = found one .before .azimuth-by .result
 
-sub-wide : tie.Need-sub-wide
-sub-wide c = search needs
+  of-query : at ≡ azimuthOf (s .args .index .frame) (s .args .query)
+  unfolding azimuthOf
+  of-query = found one .before .azimuth-by .ensures ∙ ap₂ azimuthBy (along-east (two one)) (along-north (two one))
 
-mul-wide : tie.Need-mul-wide
-mul-wide c = let t = found c in omega (arith, below t, most t)
+  aside : Aside (s .args .index .frame) (s .args .query)
+  aside = let h = subst (AsideIf _ _) (both one .0) (one .before .is-aside .ensures) in
+      record { seen-from = λ e f. h (along-east (two one) ∙ e) (along-north (two one) ∙ f) }
 
-mul-wide-2 : tie.Need-mul-wide-2
-mul-wide-2 c = let t = found c in omega (arith, below t, most t)
+  node : Node (vertexCount (s .args .vertices .now)) (s .args .sectors .now) (s .args .table .now) (s .args .list .now)
+      (k one)
+  node = s .pre .1 .indexed .each (k one) (below one)
 
-shared-slice-read-wide : tie.Need-shared-slice-read-wide
-shared-slice-read-wide c =
-    let t = c .before in omega (arith, below (found t), s t .pre .1 .indexed .spans-room)
+sub-if2 : tie.Need-sub-if2
+sub-if2 c =
+    let r = c .before .before in
+    let row = r .row-at .ensures in omega (arith, row .from, row .to, node r .complete .some)
 
-wide-requires : tie.Need-wide-requires
-wide-requires c κs = search needs
+-- The azimuth is in the node's cone, and there is room for its list.
+module _ (t : tie.Then2) where
+  abbrev looked : tie.After-row-at
+  looked = t .before .before .before
 
-sub-wide-2 : tie.Need-sub-wide-2
-sub-wide-2 c = search needs
+  abbrev near : ℕ
+  near = length (s looked .args .near .now)
 
-mul-wide-3 : tie.Need-mul-wide-3
-mul-wide-3 c = let t = found (c .before .before) in omega (arith, below t, most t)
-
-add-wide : tie.Need-add-wide
-add-wide c = let t = found (c .before .before) in omega (arith, below t, most t)
-
-mul-wide-4 : tie.Need-mul-wide-4
-mul-wide-4 c = let t = found (c .before .before) in omega (arith, below t, most t)
-
-shared-slice-read-wide-2 : tie.Need-shared-slice-read-wide-2
-shared-slice-read-wide-2 c =
-    let t = c .before .before .before in omega (arith, below (found t), s t .pre .1 .indexed .spans-room)
-
-wide-requires-2 : tie.Need-wide-requires-2
-wide-requires-2 c κs = search needs
-
-sub-if3 : tie.Need-sub-if3
-sub-if3 c =
-    let w = c .before .before in
-    omega (arith, w .wide .ensures, c .wide2 .ensures, node (w .before .before) .complete .some)
+  tests : ((leb (looked .row-at .result .lo) (at looked) && leb (at looked) (looked .row-at .result .last)) ≡ true)
+      × (leb (looked .row-at .result .to - looked .row-at .result .from) near ≡ true)
+  tests = both-true _ _ (t .if2 .taken)
 
 tally-near-requires : tie.Need-tally-near-requires
-unfolding arcOf planeOf
 tally-near-requires c κs =
-    let r = c .before in
-    let w2 = r .before in
-    let w = w2 .before .before in
-    let t = w .before .before in
-    let v = s t .args in
-    let a = arc (found t) in
-    let vs = v .vertices .now in
-    let lo = vertexAt (v .rays .now) (k (found t) * 2) in
-    let hi = vertexAt (v .rays .now) (k (found t) * 2 + 1) in
-    let n = node t .complete in
-    let off = reference-accepted _ vs (v .known) (s t .pre .0 .0) .off-circle in
-    let e : isBetween (a .arc-between .result .plane .normal) lo hi ≡ true =
-    sym (λ j. isBetween (a .arc-between .result .plane .normal) (two t .before .vertex-at .ensures j)
-    (two t .vertex-at2 .ensures j)) ∙ sym (t .before .is-between .ensures) ∙ t .if2 .taken in
-    let through = ap (λ b. b .plane .normal) (a .arc-between .ensures) in
-    let at = between (v .known) (v .query) lo hi (subst (λ m. isBetween m lo hi ≡ true) through e) in (
-      (s t .pre .0 .0, s t .pre .0 .1, r .if3 .taken),
-      rw (w .wide .ensures, w2 .wide2 .ensures) (record {
-        some = n .some;
-        within = n .within;
-        covers = certified vs (v .known) off lo hi (v .query) at (n .covers);
-      }),
+    let t = c .before in
+    let r = looked t in
+    let v = s r in
+    let row = r .row-at .result in
+    let inside = both-true (leb (row .lo) (at r)) (leb (at r) (row .last)) (tests t .0) in
+    let off = reference-accepted _ (v .args .vertices .now) (v .args .known) (v .pre .0 .0) .off-circle in
+    let told = telling (v .pre .1 .frame) off (v .pre .1 .sectors-of) (v .args .query) (aside r) in (
+      (v .pre .0 .0, v .pre .0 .1, leb-true (row .to - row .from) (near t) (tests t .1)),
+      (
+        (rw (of-query r) told, rw (of-query r) (azimuth-below (v .args .index .frame) (v .args .query))),
+        row-complete (r .row-at .ensures) (node r) (leb-true (row .lo) (at r) (inside .0))
+            (leb-true (at r) (row .last) (inside .1)),
+      ),
     )
 
 same-length : tie.Need-same-length
@@ -173,40 +160,26 @@ same-length c = search needs
 returns : tie.Need-returns
 returns c = search needs
 
-search-edges-requires : tie.Need-search-edges-requires
-search-edges-requires c κs = search needs
-
 returns-2 : tie.Need-returns-2
 returns-2 c = search needs
+
+returns-3 : tie.Need-returns-3
+returns-3 c = search needs
 
 pub tally-edges-spec : {M : Type 1} → statement M
 tally-edges-spec =
     tie.close
     (tie.spec
-    arc-between-requires
+    dot-requires
+    dot-requires-2
+    azimuth-by-requires
     guess-requires
-    sub-vertex-at
-    mul-vertex-at
-    vertex-at-requires
-    sub-vertex-at-2
-    mul-vertex-at-2
-    add-vertex-at
-    vertex-at-requires-2
-    is-between-requires
-    sub-wide
-    mul-wide
-    mul-wide-2
-    shared-slice-read-wide
-    wide-requires
-    sub-wide-2
-    mul-wide-3
-    add-wide
-    mul-wide-4
-    shared-slice-read-wide-2
-    wide-requires-2
-    sub-if3
+    is-aside-requires
+    sub-row-at
+    row-at-requires
+    sub-if2
     tally-near-requires
     same-length
     returns
-    search-edges-requires
-    returns-2)
+    returns-2
+    returns-3)

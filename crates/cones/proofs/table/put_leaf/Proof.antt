@@ -1,7 +1,6 @@
 -- `put_leaf` meets its contract.
 use mathlib.Core.Path.{subst}
 use Prim.Native.Nat.{_-_}
-use native.Mathlib.Omega.{arith}
 use borrow.Author.Needs.{needs}
 use lib.ListN.{length}
 use Rattle.cones.specs.Table.{Roomy}
@@ -19,29 +18,24 @@ has-room-requires c κs = search needs
 
 put-node-requires : tie.Need-put-node-requires
 put-node-requires c κs =
-    let t = c .before .before .before in
+    let t = c .before .before in
     let h = t .before in
-    let s = h .before .before .before .before .before .before in
+    let s = h .before .before .before .before .before .before .before in
     let v = s .args in (
       s .pre .0,
-      (
-        s .pre .1,
-        subst (λ b. Roomy (length (v .rays .now)) (length (v .spans .now)) (length (v .list .now)) (v .size .nodes)
-            (v .size .top) (v .cone .to - v .cone .from) b) (t .if2 .taken) (h .has-room .ensures),
-      ),
+      s .pre .1,
+      subst (λ b. Roomy (length (v .table .now)) (length (v .list .now)) (v .size .nodes) (v .size .top)
+          (v .cone .to - v .cone .from) b) (t .if2 .taken) (h .has-room .ensures),
     )
 
-add-t27 : tie.Need-add-t27
-add-t27 c = search needs
+add-t22 : tie.Need-add-t22
+add-t22 c = search needs
 
 same-length : tie.Need-same-length
 same-length c = search needs
 
 same-length-2 : tie.Need-same-length-2
 same-length-2 c = search needs
-
-same-length-3 : tie.Need-same-length-3
-same-length-3 c = search needs
 
 returns : tie.Need-returns
 returns c = search needs
@@ -60,10 +54,9 @@ put-leaf-spec =
     add-if1
     has-room-requires
     put-node-requires
-    add-t27
+    add-t22
     same-length
     same-length-2
-    same-length-3
     returns
     returns-2
     returns-3)

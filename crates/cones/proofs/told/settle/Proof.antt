@@ -13,7 +13,7 @@ use Rattle.polygon.proofs.Laws.Edges.{end-within}
 use Rattle.search.proofs.Laws.Arc.{reference}
 use Rattle.search.proofs.Laws.Coincident.{earlier-not-border}
 use Rattle.cones.proofs.Laws.Coincident.{list-coincident}
-use Rattle.cones.proofs.Laws.Near.{held-first}
+use Rattle.cones.proofs.Laws.Close.{held-first}
 use Rattle.cones.proofs.told.settle.Statement.{statement}
 use Rattle.cones.proofs.told.settle.Tie as tie
 

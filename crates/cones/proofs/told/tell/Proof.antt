@@ -31,7 +31,7 @@ use Rattle.search.proofs.Laws.Tally.{Tallied, tallied-end, tallied-few, tally-a
 use Rattle.search.proofs.Laws.Tally.{none-start, none-before}
 use Rattle.cones.specs.Cones.{Idle, Covers, keep, Told}
 use Rattle.cones.proofs.Laws.Covers.{AtEntry, covers-at, Walked, walk-start, walk-step}
-use Rattle.cones.proofs.Laws.Near.{off-not-on}
+use Rattle.cones.proofs.Laws.Close.{off-not-on}
 use Rattle.cones.proofs.told.tell.Statement.{statement}
 use Rattle.cones.proofs.told.tell.Tie as tie
 
@@ -84,7 +84,7 @@ module _ (c : tie.After-wide Inv-loop μ-loop) where
   few = omega (arith, at .below, reference (entry .pre .0) .accepted .listed .most)
 
   below : c .wide .result < vertexCount vs
-  below = omega (arith, c .wide .ensures, at .below)
+  below = omega (arith, c .wide .ensures .0, at .below)
 
 vertex-at-requires : tie.Need-vertex-at-requires Inv-loop μ-loop
 vertex-at-requires c κs = omega (arith, below c)
@@ -207,7 +207,7 @@ module _ (c : tie.After-counted Inv-loop μ-loop) where
       ≡ Crossed (c .counted .result) way
   one =
       subst (λ j. tallyFrom (vs w) (s q .args .arc .from) (s q .args .arc .to) j 1 ≡ Crossed (c .counted .result) way)
-      (w .wide .ensures)
+      (w .wide .ensures .0)
       (test-way (vs w) (s q .args .arc .from) (s q .args .arc .to) (w .wide .result) (rw unheld (ap Way told))
       (rw (toZ-ofZ w32 way fit) at (c .counted .ensures)))
 
@@ -264,7 +264,7 @@ returns c =
     rw (k .1) (tally-all v X P n (tallied-end all)))
     (λ k.
     let here = covers-at (st .pre .1 .covers) (o .loop .e) (omega arith) (k .0 .left) in
-    let below : k .2 .result < n = omega (arith, k .2 .ensures, here .below) in
+    let below : k .2 .result < n = omega (arith, k .2 .ensures .0, here .below) in
     let grid = reference (st .pre .0) .accepted .gridded in
     let made = plane-made (a .arc .plane .grid) _ _
     (start-within grid below (record { start = λ h. k .3 .ensures })) (end-within grid below (k .4 .ensures))
@@ -275,7 +275,7 @@ returns c =
       level =
           sym (k .6 .ensures ∙ ap signOf (made-turn made P)
           ∙ (λ j. signOf (orientationOf (k .3 .ensures j) (k .4 .ensures j) P))) ∙ ap signOf zero;
-      none = subst (λ j. NoneBefore v P j) (sym (k .2 .ensures))
+      none = subst (λ j. NoneBefore v P j) (sym (k .2 .ensures .0))
           (none-before _ _ _ (omega arith) (none-start _ _) (inv .walked .tallied _ (here .before)));
     }))
     (c .before .if1 .came))

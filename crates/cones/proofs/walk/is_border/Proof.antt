@@ -77,7 +77,7 @@ coincident-requires c κs =
     let t = c .before .before in
     let s = start t in (
       s .pre .0 .1,
-      omega (arith, c .wide .ensures, at t .below),
+      omega (arith, c .wide .ensures .0, at t .below),
       rw (ends t .before .vertex-at .ensures) (s .pre .0 .1 .each (s .args .i) (s .pre .0 .2)),
       end-within (s .pre .0 .1) (s .pre .0 .2) (ends t .end-of .ensures),
     )
@@ -89,7 +89,7 @@ more c =
     let t = c .before .before .before in
     c .coincident .ensures
     ∙ (λ j. cond (isCoincident (vs t) (ends t .before .vertex-at .ensures j) (ends t .end-of .ensures j)
-    (c .before .wide .ensures j)) 1 0)
+    (c .before .wide .ensures .0 j)) 1 0)
 
 -- One before edge i.
 returns : tie.Need-returns Inv-loop μ-loop
@@ -97,7 +97,7 @@ returns c =
     let d = c .before .before in
     let t = d .before .before .before in
     let s = start t in
-    sym (s .pre .0 .3 .tell (entry t) (omega (arith, d .before .wide .ensures, c .before .if1 .taken))
+    sym (s .pre .0 .3 .tell (entry t) (omega (arith, d .before .wide .ensures .0, c .before .if1 .taken))
     (one-held (test t (entry t)) (sym (more d) ∙ c .if2 .taken)))
   where
     one-held : (b : Bool) → _≡_ {A = ℕ} (cond b 1 0) 1 → b ≡ true

@@ -80,8 +80,8 @@ test-listed-requires c κs =
     let none = none-before _ _ _ (omega arith) (none-start _ _) own-tally in (
       (
         entry c .pre .0,
-        omega (arith, c .wide .ensures, at c .below),
-        subst (λ j. NoneBefore (vs c) (entry c .args .arc .to) j) (sym (c .wide .ensures)) none,
+        omega (arith, c .wide .ensures .0, at c .below),
+        subst (λ j. NoneBefore (vs c) (entry c .args .arc .to) j) (sym (c .wide .ensures .0)) none,
       ),
       entry c .pre .1,
     )
@@ -114,7 +114,7 @@ module _ (c : tie.After-counted Inv-loop μ-loop) where
   one =
       let s = entry here .args in
       subst (λ j. tallyFrom (s .vertices .now) (s .arc .from) (s .arc .to) j 1 ≡ Crossed (c .counted .result) way)
-      (here .wide .ensures)
+      (here .wide .ensures .0)
       (test-way (s .vertices .now) (s .arc .from) (s .arc .to) (here .wide .result)
       (sym (tested .test-listed .ensures) ∙ c .before .before .way .given .1)
       (rw (toZ-ofZ w32 way fit) at (c .counted .ensures)))
@@ -179,7 +179,7 @@ returns c =
     (st .pre .1 .covers)) in
     rw (w .1) (sym (tally-all v X P n (tallied-end all))))
     (λ w.
-    let held = subst (λ j. tallyFrom v X P j 1 ≡ Held (w .2 .result)) (w .2 .ensures)
+    let held = subst (λ j. tallyFrom v X P j 1 ≡ Held (w .2 .result)) (w .2 .ensures .0)
     (test-held v X P (w .2 .result) (sym (w .3 .ensures) ∙ w .5 .given .1)) in
     rw (w .6) (sym (tally-all v X P n (walk-held (inv .after) (w .0 .left) (st .pre .1 .covers) (inv .walked) held))))
     (c .before .if1 .came)

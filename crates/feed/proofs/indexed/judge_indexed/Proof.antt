@@ -3,6 +3,7 @@ use mathlib.Core.Path.{_≡_, sym, _∙_, ap, subst}
 use mathlib.Core.Bool.{false}
 use borrow.Author.Needs.{needs}
 use Prim.Native.Nat.{ℕ}
+use native.Mathlib.Omega.{arith}
 use Rattle.sphere.specs.declared.point.Point.{Point}
 use Rattle.sphere.specs.Point.{limitOf, Within, isOffGrid}
 use Rattle.sphere.specs.Direction.{isAntipodal}
@@ -16,6 +17,7 @@ use Rattle.polygon.proofs.Laws.Checks.{accept-passed}
 use Rattle.polygon.proofs.Laws.Pair.{optional-first, judge-near}
 use Rattle.judging.specs.Judge.{verdictOn}
 use Rattle.judging.proofs.Laws.Judge.{verdict-tally}
+use Rattle.cones.specs.Said.{SaidOf}
 use Rattle.feed.proofs.indexed.judge_indexed.Statement.{statement}
 use Rattle.feed.proofs.indexed.judge_indexed.Tie as tie
 
@@ -51,7 +53,7 @@ returns-2 c = c .judge-boxed2 .ensures .0
 -- The query is on the grid.
 module _ (c : tie.Else2) where
   abbrev start : tie.Start
-  start = c .before .before .before .before .before .before .before .before
+  start = c .before .before .before .before .before .before .before .before .before
 
   gridded : isOffGrid (limitOf (start .args .grid)) (start .args .query) ≡ false
   gridded = sym (c .before .is-off-grid .ensures) ∙ c .if2 .left
@@ -70,10 +72,21 @@ judge-boxed-requires-3 c κs = search needs
 returns-3 : tie.Need-returns-3
 returns-3 c = c .judge-boxed3 .ensures .0
 
+-- The index has a node.
 tally-edges-requires : tie.Need-tally-edges-requires
 tally-edges-requires c κs =
     let e = c .before .before .before in
-    let s = start e in ((accepted s, within e, s .pre .0 .1), s .pre .1)
+    let s = start e in
+    ((accepted s, within e), s .pre .1 .built (omega (arith, e .before .before .if1 .left)))
+
+enum-told : tie.Need-enum-told
+enum-told c = search needs
+
+judge-boxed-requires-4 : tie.Need-judge-boxed-requires-4
+judge-boxed-requires-4 c κs = search needs
+
+enum-known-tally : tie.Need-enum-known-tally
+enum-known-tally c = search needs
 
 verdict-on-requires : tie.Need-verdict-on-requires
 verdict-on-requires c κs = search needs
@@ -82,9 +95,16 @@ same-length : tie.Need-same-length
 same-length c = search needs
 
 returns-4 : tie.Need-returns-4
+returns-4 c = search needs
+
+same-length-2 : tie.Need-same-length-2
+same-length-2 c = search needs
+
+returns-5 : tie.Need-returns-5
 unfolding answerOf judgeCheck
-returns-4 c =
-    let t = c .before .before .before in
+returns-5 c =
+    let m = c .before .before in
+    let t = m .before .before .before .before in
     let e = t .before .before in
     let q = e .before .before in
     let s = start q in
@@ -92,13 +112,14 @@ returns-4 c =
     let limit = limitOf (a .grid) in
     let vs = a .vertices .now in
     let apart : isAntipodal (a .known) (a .query) ≡ false = sym (e .before .antipodal .ensures) ∙ e .if3 .left in
+    let told = subst (SaidOf vs (a .known) (a .query)) (m .tally .given .1) (t .tally-edges .ensures) in
     rw (
       judge-near (a .known) (a .second) (a .query) apart,
       accepted s,
       on-grid limit (a .query) (gridded q),
       near (a .known) (a .query) apart,
     )
-    (c .verdict-on .ensures ∙ ap verdictOn (t .tally-edges .ensures) ∙ verdict-tally vs (a .known) (a .query))
+    (c .verdict-on .ensures ∙ ap verdictOn told ∙ verdict-tally vs (a .known) (a .query))
 
 pub judge-indexed-spec : {M : Type 1} → statement M
 judge-indexed-spec =
@@ -113,6 +134,11 @@ judge-indexed-spec =
     judge-boxed-requires-3
     returns-3
     tally-edges-requires
+    enum-told
+    judge-boxed-requires-4
+    enum-known-tally
     verdict-on-requires
     same-length
-    returns-4)
+    returns-4
+    same-length-2
+    returns-5)
