@@ -37,7 +37,7 @@ fn grow_root(
     let lo = r * 16384;
     let last = lo + 16383;
     let to = first_list(n, sectors, lo, last, stack);
-    let quota = rest(640, 0, size.nodes) / (4 - r);
+    let quota = rest(512, 0, size.nodes) / (4 - r);
     let cone = Cone {
         from: 0,
         to: to,

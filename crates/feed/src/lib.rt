@@ -203,9 +203,9 @@ fn judge_by_index(
         (feedBytes (limitOf grid) (now (vertices .entry)) known second (now (queries .entry))) ⌝ }
 {
     let mut sectors = [0u16; 8192];
-    let mut table = [0u16; 2560];
+    let mut table = [0u16; 2048];
     let mut buckets = [0u16; 1025];
-    let mut list = [0u16; 11264];
+    let mut list = [0u16; 9984];
     let mut stack = [0u16; 8192];
     let index = build(
         grid,
