@@ -246,7 +246,7 @@ SPG_NONNULL SPG_PURE static inline int32_t spg_coordinate_at(const uint8_t *poin
  *                   opposite the first, the second.
  *
  * Nothing is written. A query that lies on many corridors takes longer: little more than one pass over the vertices for
- * every two sides that hold it, at 4,096 sides 6 to 9 ms. In a long feed, which goes by an index, it is at most one pass
+ * every two sides that hold it, at 4,096 sides some 5 ms. In a long feed, which goes by an index, it is at most one pass
  * for each such side.
  */
 SPG_PURE uint32_t spg_judge_number(const uint8_t *sheet, size_t sheet_len, int32_t x, int32_t y, int32_t z);

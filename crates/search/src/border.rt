@@ -20,6 +20,7 @@ ghost use Rattle.search.specs.Walk.{tallyFrom, stopsAt};
 ghost use Rattle.search.specs.Border.{Foremost, ClassMarked, heldOr, NextHeld};
 ghost use Rattle.search.specs.Border.{NextOther, Settled};
 use crate::arc::Arc;
+use crate::arc::arc_between;
 use crate::spans::next_span;
 use crate::walk::Tally;
 use crate::walk::walk_spans;
@@ -171,13 +172,17 @@ fn first_border(vertices: &[i32], boxes: &[i32], arc: Arc) -> Found
     Found::Nothing
 }
 
-// What all edges say, whichever of those that hold the query are border.
+// What all edges say, whichever of those that hold the query are border. Many may hold it, so the boxes are not asked
+// again for each of them.
 fn tally_marked(vertices: &[i32], boxes: &[i32], arc: Arc) -> Tally
     requires { ⌜ Searchable (now vertices) (now boxes) arc ⌝ }
     ensures { λ r. ⌜ r ≡ tallyFrom (now (vertices .entry)) (arc .from) (arc .to) 0
         (vertexCount (now (vertices .entry))) ⌝ }
 {
-    match first_border(vertices, boxes, arc) {
+    let plane = arc.plane;
+    let grid = plane.grid;
+    let whole = arc_between(grid, arc.from, arc.to, false);
+    match first_border(vertices, boxes, whole) {
         Found::Nothing => walk_spans(vertices, boxes, arc, 0, false),
         Found::At(edge) => Tally::Held(edge),
     }

@@ -1,12 +1,12 @@
 -- `past_off` meets its contract: the vertices from i on, before the one at hand, are off c.
-use mathlib.Core.Path.{_≡_, sym, _∙_, ap}
+use mathlib.Core.Path.{_≡_, sym, _∙_, ap, subst}
 use mathlib.Core.Bool.{true, false}
 use native.Mathlib.Omega.{arith}
-use borrow.Author.Needs.{needs}
 use borrow.Author.Tests.{not-false}
-use Prim.Native.Nat.{_-_, _≤_}
+use Prim.Native.Nat.{ℕ, _+_, _-_, _≤_, _<_}
 use Rattle.sphere.specs.Direction.{isSameDirection}
-use Rattle.polygon.specs.Vertices.{vertexAt}
+use Rattle.answer.proofs.Laws.Chain.{both-true}
+use Rattle.polygon.specs.Vertices.{vertexCount, vertexAt}
 use Rattle.polygon.specs.Border.{isOff, OffBetween}
 use Rattle.polygon.proofs.Laws.Off.{off-not-same, off-start, off-step}
 use Rattle.polygon.proofs.border.past_off.Statement.{statement}
@@ -21,38 +21,89 @@ abbrev μ-loop : tie.MeasureT-loop
 loop-holds : tie.Need-loop-holds Inv-loop μ-loop
 loop-holds c = (off-start, c .pre .2)
 
+sub-loop : tie.Need-sub-loop Inv-loop μ-loop
+sub-loop c = c .loop .inv .1
+
+-- The two vertices of a turn.
+module _ (c : tie.In-loop Inv-loop μ-loop) where
+  abbrev start : tie.Start Inv-loop μ-loop
+  start = c .before .before
+
+  abbrev at : ℕ
+  at = c .before .loop .at
+
+  more : at + 2 ≤ start .args .to
+  more = omega (arith, c .loop-test .taken)
+
+  room : at + 1 < vertexCount (start .args .vertices .now)
+  room = omega (arith, more, start .pre .3)
+
 vertex-at-requires : tie.Need-vertex-at-requires Inv-loop μ-loop
-vertex-at-requires c κs = omega (arith, c .loop-test .taken, c .before .before .pre .3)
+vertex-at-requires c κs = omega (arith, room c)
 
 is-off-requires : tie.Need-is-off-requires Inv-loop μ-loop
 is-off-requires c κs =
-    let l = c .before in
-    let s = l .before .before in
-    (s .pre .1, rw (c .vertex-at .ensures) (s .pre .0 .each _ (omega (arith, l .loop-test .taken, s .pre .3))))
+    let s = start (c .before) in
+    (s .pre .1, rw (c .vertex-at .ensures) (s .pre .0 .each _ (omega (arith, room (c .before)))))
+
+add-vertex-at : tie.Need-add-vertex-at Inv-loop μ-loop
+add-vertex-at c = let l = c .before .before in omega (arith, more l, start l .fits .to)
+
+vertex-at-requires-2 : tie.Need-vertex-at-requires-2 Inv-loop μ-loop
+vertex-at-requires-2 c κs = omega (arith, room (c .before .before))
+
+is-off-requires-2 : tie.Need-is-off-requires-2 Inv-loop μ-loop
+is-off-requires-2 c κs =
+    let l = c .before .before .before in
+    (start l .pre .1, rw (c .vertex-at2 .ensures) (start l .pre .0 .each _ (room l)))
 
 returns : tie.Need-returns Inv-loop μ-loop
-returns c = c .before .before .before .before .loop .inv
+returns c = c .before .before .before .before .before .before .loop .inv
 
-off : (c : tie.After-is-off Inv-loop μ-loop) → c .is-off .result ≡ true →
-    let l = c .before .before .before in
-    isSameDirection (l .before .args .c) (vertexAt (l .before .args .vertices .now) (l .loop .at)) ≡ false
-off c e =
-    let v = c .before in
-    let s = v .before .before .before .args in
-    off-not-same (s .axis) (s .c) _
-    (ap (isOff (s .axis) (s .c)) (sym (v .vertex-at .ensures)) ∙ sym (c .is-off .ensures) ∙ e)
+-- Where both are off.
+module _ (c : tie.Else1 Inv-loop μ-loop) where
+  abbrev tests : tie.After-is-off2 Inv-loop μ-loop
+  tests = c .before
+
+  abbrev first : tie.After-is-off Inv-loop μ-loop
+  first = tests .before .before
+
+  abbrev turn : tie.In-loop Inv-loop μ-loop
+  turn = first .before .before
+
+  abbrev s : tie.Start Inv-loop μ-loop
+  s = start turn
+
+  off : (first .is-off .result ≡ true) × (tests .is-off2 .result ≡ true)
+  off = both-true (first .is-off .result) (tests .is-off2 .result) (not-false _ (c .if1 .left))
+
+  other : (j : ℕ) → isOff (s .args .axis) (s .args .c) (vertexAt (s .args .vertices .now) j) ≡ true →
+      isSameDirection (s .args .c) (vertexAt (s .args .vertices .now) j) ≡ false
+  other j e = off-not-same (s .args .axis) (s .args .c) (vertexAt (s .args .vertices .now) j) e
+
+  passed : OffBetween (s .args .vertices .now) (s .args .c) (s .args .i) (at turn + 1 + 1)
+  passed =
+      let is = isOff (s .args .axis) (s .args .c) in
+      off-step
+      (off-step (turn .before .loop .inv .0)
+      (other (at turn) (ap is (sym (first .before .vertex-at .ensures)) ∙ sym (first .is-off .ensures) ∙ off .0)))
+      (other (at turn + 1)
+      (ap is (sym (tests .before .vertex-at2 .ensures)) ∙ sym (tests .is-off2 .ensures) ∙ off .1))
+
+  on : at turn + 1 + 1 ≡ at turn + 2
+  on = omega arith
 
 add-at : tie.Need-add-at Inv-loop μ-loop
-add-at c = search needs
+add-at c = omega (arith, more (turn c), s c .fits .to)
 
 loop-less : tie.Need-loop-less Inv-loop μ-loop
-loop-less c = omega (arith, c .before .before .before .loop-test .taken)
+loop-less c = omega (arith, more (turn c))
 
 loop-again : tie.Need-loop-again Inv-loop μ-loop
-loop-again c =
-    let l = c .before .before .before in
-    let more = off-step (l .before .loop .inv .0) (off (c .before) (not-false _ (c .if1 .left))) in
-    (more, omega (arith, l .loop-test .taken))
+loop-again c = (
+  subst (OffBetween (s c .args .vertices .now) (s c .args .c) (s c .args .i)) (on c) (passed c),
+  more (turn c),
+)
 
 returns-2 : tie.Need-returns-2 Inv-loop μ-loop
 returns-2 c = c .before .loop .inv
@@ -64,8 +115,12 @@ past-off-spec =
     Inv-loop
     μ-loop
     loop-holds
+    sub-loop
     vertex-at-requires
     is-off-requires
+    add-vertex-at
+    vertex-at-requires-2
+    is-off-requires-2
     returns
     add-at
     loop-less
