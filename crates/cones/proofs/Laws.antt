@@ -7,6 +7,7 @@ pub mod Frame
 pub mod Across
 pub mod Azimuth
 pub mod Plane
+pub mod Sides
 pub mod Sectors
 pub mod SectorsTo
 pub mod Ranges

@@ -1,22 +1,21 @@
 -- Lists of edges that are complete for a query, or for all that are in a cone: for the code alone. Defined, in order:
--- Idle (an edge that a query does not notice); Covers, Complete (a list of edges); EarlierTell; OnCircle, Told (what a
--- loop over a complete list says).
+-- Idle (an edge that a query does not notice); Covers, Complete (a list of edges); EarlierTell; Walked, Coming (what a
+-- loop over a complete list has come to).
 use mathlib.Core.Path.{_≡_}
 use mathlib.Core.Bool.{true, false}
 use mathlib.Core.List.{List}
 use Prim.Native.Nat.{ℕ, suc, _≤_, _<_}
 use lib.IntN.{ℤ}
 use lib.ListN.{length, getD}
-use Rattle.integers.specs.Sign.{nought, signOf}
+use Rattle.integers.specs.Sign.{nought}
 use Rattle.sphere.specs.declared.point.Point.{Point}
-use Rattle.sphere.specs.Orientation.{orientationOf}
 use Rattle.sphere.specs.Crossing.{crossingOf}
 use Rattle.polygon.specs.Vertices.{vertexCount, startOf, endOf}
 use Rattle.polygon.specs.Border.{isCoincident, isBorder}
 use Rattle.polygon.specs.Verdict.{isHeldBy}
-use Rattle.search.specs.declared.walk.Tally.{Tally}
-use Rattle.search.specs.declared.walk.Tally.the-variants.{Held, Crossed}
-use Rattle.search.specs.Walk.{tallyFrom, NoneBefore}
+use Rattle.search.specs.declared.walk.Tally.the-variants.{Crossed}
+use Rattle.search.specs.Walk.{tallyFrom}
+use Rattle.cones.specs.declared.told.Told.{Told}
 
 -- The arc from X to P does not cross edge j, and P is not on it.
 pub record Idle (vs : List ℤ) (X P : Point) (j : ℕ) : Type 0 where
@@ -39,13 +38,11 @@ pub record Complete (I : ℕ → Type 0) (n : ℕ) (l : List ℕ) (a b : ℕ) : 
 pub record EarlierTell (vs : List ℤ) (i : ℕ) : Type 0 where
   pub tell : (j : ℕ) → j < i → isCoincident vs (startOf vs i) (endOf vs i) j ≡ true → isBorder vs i ≡ false
 
--- P lies on the great circle of edge i, and no edge before it is border and holds P.
-pub record OnCircle (vs : List ℤ) (P : Point) (i : ℕ) : Type 0 where
-  pub below : i < vertexCount vs
-  pub level : signOf (orientationOf (startOf vs i) (endOf vs i) P) ≡ nought
-  pub none : NoneBefore vs P i
+-- Before entry e of a list: what all edges say that the entries before it cover, of which none is border and holds P.
+pub record Walked (vs : List ℤ) (X P : Point) (l : List ℕ) (e crossed : ℕ) (sum : ℤ) : Type 0 where
+  pub tally : (i : ℕ) → Covers (Idle vs X P) l 0 i e → tallyFrom vs X P 0 i ≡ Crossed crossed sum
 
--- The tally of all edges; or an edge on whose circle P lies.
-abbrev pub Told : List ℤ → Point → Point → Tally → Type 0
-Told vs X P (Held i) = OnCircle vs P i
-Told vs X P (Crossed crossed sum) = tallyFrom vs X P 0 (vertexCount vs) ≡ Crossed crossed sum
+-- The same as a loop over the first `to` entries has it.
+pub record Coming (vs : List ℤ) (X P : Point) (l : List ℕ) (to : ℕ) (told : Told) : Type 0 where
+  pub before : told .at ≤ to
+  pub walked : Walked vs X P l (told .at) (told .crossed) (told .sum)

@@ -1,6 +1,6 @@
 pub mod Azimuth
 pub mod Cones
 pub mod Lists
-pub mod Said
 pub mod Sectors
+pub mod Sure
 pub mod Table

@@ -43,7 +43,7 @@ pub record Indexed (n : ℕ) (sectors table list : List ℕ) (nodes top : ℕ) :
 -- The whole index, and the frame in which the azimuths are.
 pub record Built (vs : List ℤ) (X : Point) (sectors table list : List ℕ) (index : Index) : Type 0 where
   pub frame : FrameAt X (index .frame)
-  pub sectors-of : SectorsOf vs (index .frame) sectors
+  pub sectors-of : SectorsOf vs X (index .frame) sectors
   pub indexed : Indexed (vertexCount vs) sectors table list (index .nodes) (index .top)
 
 -- An index without nodes says nothing.

@@ -66,7 +66,7 @@ pub fn frame_of(known: Point) -> Frame
     turned(x > 0, across_y, across_z)
 }
 
-fn choose(first: bool, a: usize, b: usize) -> usize
+pub(crate) fn choose(first: bool, a: usize, b: usize) -> usize
     ensures { λ r. ⌜ r ≡ cond first a b ⌝ }
 {
     if first {

@@ -93,7 +93,7 @@ pub fn build(
         r ⌝ }
 {
     let frame = frame_of(known);
-    put_sectors(vertices, frame, sectors);
+    put_sectors(grid, vertices, known, frame, sectors);
     let size = grow_roots(vertices.len() / 3, sectors, table, list, stack);
     fill(table, size.nodes, buckets);
     Index {

@@ -1,20 +1,23 @@
-// A query by the index. Here, in order: least, locate, guess (a node that may be the right one); Said, is_aside,
-// tally_edges.
+// A query by the index. Here, in order: least, locate, guess (a node that may be the right one); is_aside, tally_edges.
 ghost use mathlib.Core.Path.{_≡_};
 ghost use Prim.Native.Nat.{_*_, _≤_, _<_};
 ghost use lib.ListN.{length};
 ghost use Rattle.sphere.specs.Point.{limitOf, Within};
 ghost use Rattle.answer.specs.declared.Check.the-variants.{Passed};
 ghost use Rattle.polygon.specs.Checks.{acceptCheck};
+ghost use Rattle.polygon.specs.Vertices.{vertexCount};
+ghost use Rattle.search.specs.Boxes.{Boxed};
+ghost use Rattle.search.specs.Walk.{tallyFrom};
 ghost use Rattle.cones.specs.Azimuth.{AsideIf};
-ghost use Rattle.cones.specs.Said.{SaidOf};
 ghost use Rattle.cones.specs.Table.{Built};
 use crate::azimuth::azimuth_by;
 use crate::build::Index;
 use crate::sectors::wide;
 use crate::table::row_at;
 use crate::told::tally_near;
+use search::walk::Mode;
 use search::walk::Tally;
+use search::walk::search_edges;
 use sphere::orientation::dot;
 use sphere::point::Grid;
 use sphere::point::Point;
@@ -60,12 +63,6 @@ fn guess(table: &[u16], buckets: &[u16], nodes: usize, k: usize) -> usize
     locate(table, nodes, from, to, k)
 }
 
-// What the index says of a query: nothing, or what all edges say.
-pub enum Said {
-    Nothing,
-    All(Tally),
-}
-
 // The coordinates along east and north are not both 0: in the direction of the reference point there is no azimuth.
 fn is_aside(u: i64, v: i64) -> bool
     ensures { λ r. ⌜ AsideIf u v r ⌝ }
@@ -76,10 +73,11 @@ fn is_aside(u: i64, v: i64) -> bool
     v != 0
 }
 
-// By a node, where the query is in its cone.
+// What all edges say of a query, as search_edges does: by a node, where the query is in its cone, and else by the boxes.
 pub fn tally_edges(
     grid: Grid,
     vertices: &[i32],
+    boxes: &[i32],
     sectors: &[u16],
     table: &[u16],
     buckets: &[u16],
@@ -88,10 +86,12 @@ pub fn tally_edges(
     index: Index,
     known: Point,
     query: Point,
-) -> Said
-    requires { ⌜ (acceptCheck (limitOf grid) (now vertices) known ≡ Passed) × Within (limitOf grid) query ⌝ }
+    mode: Mode,
+) -> Tally
+    requires { ⌜ (acceptCheck (limitOf grid) (now vertices) known ≡ Passed) × Within (limitOf grid) query
+        × Boxed (now vertices) (now boxes) ⌝ }
     requires { ⌜ Built (now vertices) known (now sectors) (now table) (now list) index ⌝ }
-    ensures { λ r. ⌜ SaidOf (now (vertices .entry)) known query r ⌝ }
+    ensures { λ r. ⌜ r ≡ tallyFrom (now (vertices .entry)) known query 0 (vertexCount (now (vertices .entry))) ⌝ }
 {
     let frame = index.frame;
     let u = dot(frame.east, query);
@@ -103,7 +103,7 @@ pub fn tally_edges(
         let from = row.from;
         let to = row.to;
         if (row.lo <= k) & (k <= row.last) & (to - from <= near.len()) {
-            return Said::All(tally_near(
+            return tally_near(
                 grid,
                 vertices,
                 known,
@@ -114,8 +114,8 @@ pub fn tally_edges(
                 from,
                 to,
                 near,
-            ));
+            );
         }
     }
-    Said::Nothing
+    search_edges(grid, vertices, boxes, known, query, mode).tally
 }

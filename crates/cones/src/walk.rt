@@ -1,6 +1,6 @@
-// The walk over a list of edges that is complete for the query. Here, in order: is_border, is_on_border, test_listed
-// (one edge); walk_list. Edges that join the same two directions hold the same points: those that are coincident with
-// an edge that holds the query are on the list too.
+// One edge of a list that is complete for the query. Here, in order: is_border, is_on_border, test_listed. Edges that
+// join the same two directions hold the same points: those that are coincident with an edge that holds the query are on
+// the list too.
 ghost use mathlib.Core.Path.{_≡_};
 ghost use mathlib.Core.Bool.{false};
 ghost use Prim.Native.Nat.{_<_};
@@ -12,18 +12,14 @@ ghost use Rattle.polygon.specs.Border.{isCoincident, isBorder};
 ghost use Rattle.polygon.specs.Vertices.{vertexCount, startOf, endOf};
 ghost use Rattle.polygon.specs.Verdict.{isOnBorder, wayOf};
 ghost use Rattle.search.specs.Arc.{AcceptedArc};
-ghost use Rattle.search.specs.Walk.{testBy, tallyFrom, NoneBefore};
+ghost use Rattle.search.specs.Walk.{testBy, NoneBefore};
 ghost use Rattle.cones.specs.Cones.{Idle, Complete, EarlierTell};
 use crate::sectors::wide;
-use answer::Found;
 use polygon::border::coincident;
 use polygon::vertices::end_of;
 use polygon::vertices::vertex_at;
 use search::arc::Arc;
 use search::walk::EdgeTest;
-use search::walk::Tally;
-use search::walk::counted;
-use search::walk::tally_by;
 use sphere::crossing::crossing_from;
 use sphere::crossing::is_beside;
 use sphere::edge::on_edge_by;
@@ -32,7 +28,7 @@ use sphere::plane::side_of;
 
 // Edge i is border, where all edges that join the same two directions are listed. Where one of them is before it, the
 // walk came past that one, so it is no border; nor is i, and nothing more is counted.
-pub(crate) fn is_border(vertices: &[i32], list: &[u16], from: usize, to: usize, i: usize) -> bool
+fn is_border(vertices: &[i32], list: &[u16], from: usize, to: usize, i: usize) -> bool
     requires { ⌜ Listed (now vertices) × Gridded fine (now vertices) × (i < vertexCount (now vertices))
         × EarlierTell (now vertices) i ⌝ }
     requires { ⌜ Complete (λ j. isCoincident (now vertices) (startOf (now vertices) i) (endOf (now vertices) i) j
@@ -80,7 +76,7 @@ fn is_on_border(
 
 // What edge i says of the query. Its own two orientations are worked out only where its ends are not strictly on one
 // side of the arc's plane.
-fn test_listed(
+pub(crate) fn test_listed(
     vertices: &[i32],
     arc: Arc,
     list: &[u16],
@@ -110,31 +106,4 @@ fn test_listed(
         return EdgeTest::OnBorder;
     }
     EdgeTest::Way(crossing_from(edge, arc.from, s1, s2, side))
-}
-
-// What all edges say, by a list that is complete for the query.
-pub fn walk_list(vertices: &[i32], arc: Arc, list: &[u16], from: usize, to: usize) -> Tally
-    requires { ⌜ AcceptedArc (now vertices) arc ⌝ }
-    requires { ⌜ Complete (Idle (now vertices) (arc .from) (arc .to)) (vertexCount (now vertices)) (now list)
-        from to ⌝ }
-    ensures { λ r. ⌜ r ≡ tallyFrom (now (vertices .entry)) (arc .from) (arc .to) 0
-        (vertexCount (now (vertices .entry))) ⌝ }
-{
-    let mut crossed: u32 = 0;
-    let mut sum: i32 = 0;
-    let mut e = from;
-    let found = loop {
-        if e >= to {
-            break Found::Nothing;
-        }
-        let i = wide(list[e]);
-        let way = match test_listed(vertices, arc, list, from, to, i) {
-            EdgeTest::OnBorder => break Found::At(i),
-            EdgeTest::Way(way) => way,
-        };
-        crossed += counted(way);
-        sum += way;
-        e += 1;
-    };
-    tally_by(found, crossed, sum)
 }

@@ -1,12 +1,12 @@
 -- The entries whose edges span the query's azimuth. Proved, in order: near-complete (what is kept of a list that is
--- complete for an azimuth is complete for the query); arc-accepted; held-first, off-not-on.
-use mathlib.Core.Path.{_≡_, refl, sym, subst}
-use mathlib.Core.Bool.{Bool, true, false}
+-- complete for an azimuth is complete for the query); arc-accepted; told-way (an edge of which azimuth and side tell).
+use mathlib.Core.Path.{_≡_, sym, _∙_, ap, subst}
+use mathlib.Core.Bool.{Bool, true, false, cond}
 use mathlib.Core.List.{List}
-use Prim.Native.Nat.{ℕ, _-_, _≤_, _<_}
+use Prim.Native.Nat.{ℕ, _≤_, _<_}
 use native.Mathlib.Omega.{arith}
 use lib.IntN.{ℤ}
-use Rattle.integers.specs.Sign.{signOf, isZero}
+use Rattle.integers.specs.Sign.{positive, negative, signOf, isZero, unitOf}
 use Rattle.sphere.specs.declared.point.Point.{Point}
 use Rattle.sphere.specs.declared.point.Grid.{Grid}
 use Rattle.sphere.specs.Point.{limitOf, Within}
@@ -15,18 +15,18 @@ use Rattle.sphere.specs.OnEdge.{isOnEdge}
 use Rattle.sphere.specs.Plane.{planeOf}
 use Rattle.answer.specs.declared.Check.the-variants.{Passed}
 use Rattle.polygon.specs.Checks.{acceptCheck}
-use Rattle.polygon.specs.Vertices.{vertexCount}
+use Rattle.polygon.specs.Vertices.{vertexCount, startOf, endOf}
 use Rattle.polygon.proofs.Laws.Checks.{accept-passed}
-use Rattle.polygon.specs.Verdict.{isOnBorder}
 use Rattle.search.specs.declared.arc.Arc.{Arc}
-use Rattle.search.specs.declared.walk.Tally.the-variants.{Held}
+use Rattle.search.specs.declared.walk.EdgeTest.the-variants.{Way}
+use Rattle.search.specs.declared.walk.Tally.the-variants.{Crossed}
 use Rattle.search.specs.Arc.{arcOf, AcceptedArc}
 use Rattle.search.specs.Walk.{tallyFrom}
 use Rattle.search.proofs.Laws.Arc.{arc-sound}
-use Rattle.search.proofs.Laws.Tally.{Tallied, tallied-held, tally-all, test-held}
-use Rattle.cones.specs.Cones.{Idle, Covers, none, pass, keep, Complete, OnCircle}
+use Rattle.search.proofs.Laws.Tally.{test-way}
+use Rattle.cones.specs.Cones.{Idle, Covers, none, pass, keep, Complete}
 use Rattle.cones.specs.Lists.{Gathered}
-use Rattle.cones.specs.Sectors.{isMissedAt, MissedIn, Telling}
+use Rattle.cones.specs.Sectors.{isMissedAt, MissedIn, isInside, turnsLeft, wayBy, Telling}
 use Rattle.cones.proofs.Laws.Covers.{kept-covers}
 
 covers-below : {I : ℕ → Type 0} {l : List ℕ} {a n i b : ℕ} → i ≤ n → Covers I l a i b →
@@ -55,16 +55,18 @@ arc-accepted {vs} g X P by-boxes accepted query e = subst (AcceptedArc vs) (sym 
   sound = arc-sound g X P by-boxes (accept-passed accepted .known) query;
 })
 
--- ---- an edge that is border and holds the query, where none before it does
-pub held-first : (vs : List ℤ) (X P : Point) {i : ℕ} → OnCircle vs P i → isOnBorder vs P i ≡ true →
-    tallyFrom vs X P 0 (vertexCount vs) ≡ Held i
-held-first vs X P {i} on h =
-    let all : i - 0 ≡ i = omega arith in
-    let before : Tallied vs X P 0 i _ _ = record { none = rw all (on .none); count = refl; total = refl } in
-    tally-all vs X P (vertexCount vs) (tallied-held 1 (omega arith) before (vertexCount vs) (omega (arith, on .below))
-    (test-held vs X P i (rw h)))
-
--- ---- an edge on whose circle the query does not lie
-pub off-not-on : (A B P : Point) → isZero (signOf (orientationOf A B P)) ≡ false → isOnEdge A B P ≡ false
+-- ---- an edge inside whose sector the query is, strictly on one side of it
+beside-unheld : (A B P : Point) (left : Bool) →
+    signOf (orientationOf A B P) ≡ cond left positive negative → isOnEdge A B P ≡ false
 unfolding isOnEdge
-off-not-on A B P e = rw e
+beside-unheld A B P true e = rw e
+beside-unheld A B P false e = rw e
+
+pub told-way : {vs : List ℤ} {X P : Point} {sectors : List ℕ} {k : ℕ} → Telling vs X P sectors k → (j : ℕ) →
+    j < vertexCount vs → isInside sectors k j ≡ true → (left : Bool) →
+    signOf (orientationOf (startOf vs j) (endOf vs j) P) ≡ cond left positive negative → {way : ℤ} {c : ℕ} →
+    way ≡ unitOf (wayBy (turnsLeft sectors j) left) → c ≡ cond (isZero (signOf way)) 0 1 →
+    tallyFrom vs X P j 1 ≡ Crossed c way
+told-way {vs} {X} {P} telling j below inside left side same count =
+    let told = telling .across j below inside left side in
+    test-way vs X P j (rw (beside-unheld _ _ _ left side) (ap Way (ap unitOf told ∙ sym same))) count

@@ -1,20 +1,28 @@
--- Lists that are complete. Defined: AtEntry, Walked. Proved, in order: covers-least, covers-map, covers-same, covers-at
--- (an entry), entries; walk-start, walk-step, walk-held (a walk over a complete list says what a walk over all edges
--- says); kept-least, kept-same, kept-whole, kept-covers (what is kept of a complete list is complete).
+-- Lists that are complete. Defined: AtEntry, Added. Proved, in order: covers-least, covers-map, covers-same, covers-at
+-- (an entry), entries; tallied-of, walk-start, walk-step, walk-held (a walk over a complete list says what a walk over
+-- all edges says), walk-add (the same of a loop's locals); kept-least, kept-same, kept-whole, kept-covers (what is kept
+-- of a complete list is complete).
 use mathlib.Core.Path.{_≡_, refl, sym, _∙_, ap, subst}
 use mathlib.Core.Bool.{Bool, true}
 use mathlib.Core.List.{List}
 use mathlib.Core.Logic.{⊎-elim}
 use Prim.Native.Nat.{ℕ, zero, suc, _+_, _-_, _≤_, _<_}
 use native.Mathlib.Nat.{eq-or-lt-of-le}
+use native.Mathlib.Numerals.{add-one}
 use native.Mathlib.Omega.{arith}
 use lib.IntN.{ℤ, pos, _+ℤ_}
 use lib.ListN.{getD}
+use mir.Syntax.{w32}
+use mir.Val.{SFits, toZ, ofZ}
+use mir.ValLaws.{toZ-ofZ}
 use Rattle.sphere.specs.declared.point.Point.{Point}
+use Rattle.answer.specs.Search.{firstFrom, countFrom, sumFrom}
+use Rattle.polygon.specs.Verdict.{isOnBorder, isCrossed, wayOf}
 use Rattle.search.specs.declared.walk.Tally.the-variants.{Held, Crossed}
 use Rattle.search.specs.Walk.{tallyFrom}
-use Rattle.search.proofs.Laws.Tally.{Tallied, tallied-start, tallied-block, tallied-none, tallied-held, test-way}
-use Rattle.cones.specs.Cones.{Idle, Covers, none, pass, keep}
+use Rattle.search.proofs.Laws.Tally.{Tallied, tallied-start, tallied-block, tallied-none, tallied-held, tallied-end}
+use Rattle.search.proofs.Laws.Tally.{crossed-parts, tally-all, test-way, tallied-few, sum-fits}
+use Rattle.cones.specs.Cones.{Idle, Covers, none, pass, keep, Walked}
 use Rattle.cones.specs.Lists.{Entries, Kept, begin, drop, copy}
 
 -- ---- a complete list
@@ -57,31 +65,39 @@ module _ {I : ℕ → Type 0} {l : List ℕ} {a : ℕ} where
   pub entries : {n b : ℕ} → Covers I l a n b → Entries n l a b
   entries c = record { each = λ e h k. covers-at c e h k .below }
 
--- ---- a walk over it: before entry e, what is tallied of all edges that the entries before it cover
-pub record Walked (vs : List ℤ) (X P : Point) (l : List ℕ) (a e c : ℕ) (s : ℤ) : Type 0 where
-  pub tallied : (i : ℕ) → Covers (Idle vs X P) l a i e → Tallied vs X P 0 i c s
-
+-- ---- a walk over it
 module _ {vs : List ℤ} {X P : Point} where
+  pub tallied-of : {i c : ℕ} {s : ℤ} → tallyFrom vs X P 0 i ≡ Crossed c s → Tallied vs X P 0 i c s
+  unfolding tallyFrom
+  tallied-of {i} e =
+      let all : i - 0 ≡ i = omega arith in
+      let parts = crossed-parts (firstFrom (isOnBorder vs P) 0 i) (countFrom (isCrossed vs X P) 0 i)
+      (sumFrom (wayOf vs X P) 0 i) e in
+      record { none = rw all (parts .none); count = rw all (parts .count); total = rw all (parts .total) }
+
+  tally-of : {i c : ℕ} {s : ℤ} → Tallied vs X P 0 i c s → tallyFrom vs X P 0 i ≡ Crossed c s
+  tally-of {i} t = tally-all vs X P i (tallied-end t)
+
   idle-tally : {i : ℕ} → Idle vs X P i → tallyFrom vs X P i 1 ≡ Crossed 0 (pos 0)
   idle-tally {i} h = test-way vs X P i {way = pos 0} {c = 0} (rw (h .unheld, h .uncrossed)) refl
 
   idle-tallied : {i c : ℕ} {s : ℤ} → Tallied vs X P 0 i c s → Idle vs X P i → Tallied vs X P 0 (suc i) c s
   idle-tallied {i} t h = tallied-none 1 (omega arith) t (suc i) (omega arith) (idle-tally h)
 
-  module _ {l : List ℕ} {a : ℕ} where
-    pub walk-start : Walked vs X P l a a 0 (pos 0)
-    walk-start = record { tallied = λ i c. go c refl }
+  module _ {l : List ℕ} where
+    pub walk-start : Walked vs X P l 0 0 (pos 0)
+    walk-start = record { tally = λ i c. tally-of (go c refl) }
       where
-        go : {i b : ℕ} → Covers (Idle vs X P) l a i b → b ≡ a → Tallied vs X P 0 i 0 (pos 0)
+        go : {i b : ℕ} → Covers (Idle vs X P) l 0 i b → b ≡ 0 → Tallied vs X P 0 i 0 (pos 0)
         go none e = tallied-start 0
         go (pass c h) e = idle-tallied (go c e) h
-        go (keep c h) e = absurd (omega (arith, covers-least c))
+        go (keep c h) e = absurd (omega arith)
 
-    pub walk-step : {e c d : ℕ} {s t : ℤ} → a ≤ e → Walked vs X P l a e c s →
-        tallyFrom vs X P (getD l e 0) 1 ≡ Crossed d t → Walked vs X P l a (e + 1) (c + d) (s +ℤ t)
-    walk-step {e} {c} {d} {s} {t} h w one = record { tallied = λ i k. go k refl }
+    pub walk-step : {e c d : ℕ} {s t : ℤ} → Walked vs X P l e c s →
+        tallyFrom vs X P (getD l e 0) 1 ≡ Crossed d t → Walked vs X P l (e + 1) (c + d) (s +ℤ t)
+    walk-step {e} {c} {d} {s} {t} w one = record { tally = λ i k. tally-of (go k refl) }
       where
-        go : {i b : ℕ} → Covers (Idle vs X P) l a i b → b ≡ e + 1 → Tallied vs X P 0 i (c + d) (s +ℤ t)
+        go : {i b : ℕ} → Covers (Idle vs X P) l 0 i b → b ≡ e + 1 → Tallied vs X P 0 i (c + d) (s +ℤ t)
         go none q = absurd (omega arith)
         go (pass k p) q = idle-tallied (go k q) p
         go (keep {i} {b} k p) q =
@@ -89,14 +105,37 @@ module _ {vs : List ℤ} {X P : Point} where
             let here : getD l e 0 ≡ i = ap (λ x. getD l x 0) (sym same) ∙ p in
             let on : i + 1 ≡ suc i = omega arith in
             subst (λ j. Tallied vs X P 0 j (c + d) (s +ℤ t)) on
-            (tallied-block 1 (omega arith) (w .tallied i (subst (λ x. Covers (Idle vs X P) l a i x) same k))
+            (tallied-block 1 (omega arith)
+            (tallied-of (w .tally i (subst (λ x. Covers (Idle vs X P) l 0 i x) same k)))
             (subst (λ j. tallyFrom vs X P j 1 ≡ Crossed d t) here one))
 
-    pub walk-held : {e n b c : ℕ} {s : ℤ} {edge : ℕ} → a ≤ e → e < b → Covers (Idle vs X P) l a n b →
-        Walked vs X P l a e c s → tallyFrom vs X P (getD l e 0) 1 ≡ Held edge → tallyFrom vs X P 0 (n - 0) ≡ Held edge
-    walk-held {e} {n} h k all w one =
-        let r = covers-at all e h k in
-        tallied-held 1 (omega arith) (w .tallied _ (r .before)) n (omega (arith, r .below)) one
+    pub walk-held : {e n b c : ℕ} {s : ℤ} {edge : ℕ} → e < b → Covers (Idle vs X P) l 0 n b →
+        Walked vs X P l e c s → tallyFrom vs X P (getD l e 0) 1 ≡ Held edge → tallyFrom vs X P 0 n ≡ Held edge
+    walk-held {e} {n} k all w one =
+        let r = covers-at all e (omega arith) k in
+        tally-all vs X P n
+        (tallied-held 1 (omega arith) (tallied-of (w .tally _ (r .before))) n (omega (arith, r .below)) one)
+
+-- Entry e is looked at, and its edge says `way`: the sums fit, and the walk goes on.
+pub record Added (vs : List ℤ) (X P : Point) (l : List ℕ) (e crossed : ℕ) (sum : ℤ) : Type 0 where
+  pub few : crossed ≤ 4096
+  pub fits : SFits w32 sum
+  pub walked : Walked vs X P l (e + 1) crossed (toZ w32 (ofZ w32 sum))
+
+pub walk-add : {vs : List ℤ} {X P : Point} {l : List ℕ} {n e crossed d : ℕ} (sum : ℕ) (way : ℤ) → n ≤ 4096 →
+    SFits w32 way → AtEntry (Idle vs X P) l 0 n e → Walked vs X P l e crossed (toZ w32 sum) →
+    tallyFrom vs X P (getD l e 0) 1 ≡ Crossed d way →
+    Added vs X P l e (crossed + d) (toZ w32 sum +ℤ toZ w32 (ofZ w32 way))
+walk-add {l = l} {e = e} sum way most fit at w one =
+    let next = walk-step w one in
+    let few : getD l e 0 + 1 ≤ 4096 = omega (arith, at .below, most) in
+    let t = tallied-of {i = getD l e 0 + 1} (next .tally _ (rw (add-one, add-one) (keep (at .before) refl))) in
+    let fits = sum-fits sum way fit few t in
+    record {
+      few = omega (arith, tallied-few t, few);
+      fits = fits;
+      walked = rw (toZ-ofZ w32 _ fits, toZ-ofZ w32 way fit) next;
+    }
 
 -- ---- what is kept of a list
 module _ {test : ℕ → Bool} {l m : List ℕ} {a c : ℕ} where

@@ -1,6 +1,7 @@
 -- The loop that puts the sectors of all edges. Defined, in order: sectorPart, SectorsTo (before edge i). Proved, in
 -- order: sectors-start, sectors-step, sectors-end; dot-seen (how large a coordinate along a frame is).
-use mathlib.Core.Path.{_≡_, refl, _∙_, ap, ap₂}
+use mathlib.Core.Path.{_≡_, refl, _∙_, ap}
+use mathlib.Core.Bool.{Bool}
 use mathlib.Core.List.{List}
 use mathlib.Core.Logic.{⊎-elim}
 use Prim.Native.Nat.{ℕ, _+_, _*_, _≤_, _<_}
@@ -17,23 +18,24 @@ use Rattle.polygon.specs.Vertices.{vertexCount, startOf, endOf}
 use Rattle.polygon.proofs.Laws.Edges.{next-start}
 use Rattle.cones.specs.declared.azimuth.Frame.{Frame}
 use Rattle.cones.specs.Azimuth.{seen, azimuthOf}
-use Rattle.cones.specs.Sectors.{sectorStart, sectorWidth, SectorsOf}
+use Rattle.cones.specs.Sectors.{sectorStart, sectorWidth, isLeft, SectorsOf}
 
 -- The start or the width of the sector of edge j.
-abbrev sectorPart : (ℕ → ℕ → ℕ) → List ℤ → Frame → ℕ → ℕ
-sectorPart part vs F j = part (azimuthOf F (startOf vs j)) (azimuthOf F (endOf vs j))
+abbrev sectorPart : (Bool → ℕ → ℕ → ℕ) → List ℤ → Point → Frame → ℕ → ℕ
+sectorPart part vs X F j =
+    part (isLeft X (startOf vs j) (endOf vs j)) (azimuthOf F (startOf vs j)) (azimuthOf F (endOf vs j))
 
 -- On a list m that was l: the sectors of the edges before i, and `first`, the azimuth of the start of edge i.
-pub record SectorsTo (vs : List ℤ) (F : Frame) (l m : List ℕ) (first i : ℕ) : Type 0 where
+pub record SectorsTo (vs : List ℤ) (X : Point) (F : Frame) (l m : List ℕ) (first i : ℕ) : Type 0 where
   pub room : length m ≡ length l
   pub before : i ≤ vertexCount vs
   pub below : first < 65536
   pub start : i < vertexCount vs → first ≡ azimuthOf F (startOf vs i)
-  pub starts : (j : ℕ) → j < i → getD m (j * 2) 0 ≡ sectorPart sectorStart vs F j
-  pub widths : (j : ℕ) → j < i → getD m (j * 2 + 1) 0 ≡ sectorPart sectorWidth vs F j
+  pub starts : (j : ℕ) → j < i → getD m (j * 2) 0 ≡ sectorPart sectorStart vs X F j
+  pub widths : (j : ℕ) → j < i → getD m (j * 2 + 1) 0 ≡ sectorPart sectorWidth vs X F j
 
-pub sectors-start : {vs : List ℤ} {F : Frame} {l : List ℕ} {first : ℕ} → first < 65536 →
-    first ≡ azimuthOf F (startOf vs 0) → SectorsTo vs F l l first 0
+pub sectors-start : {vs : List ℤ} {X : Point} {F : Frame} {l : List ℕ} {first : ℕ} → first < 65536 →
+    first ≡ azimuthOf F (startOf vs 0) → SectorsTo vs X F l l first 0
 sectors-start h e = record {
   room = refl;
   before = omega arith;
@@ -44,7 +46,7 @@ sectors-start h e = record {
 }
 
 -- The two numbers of edge i are put.
-module _ {vs : List ℤ} {F : Frame} {l m : List ℕ} {first i : ℕ} (s : SectorsTo vs F l m first i)
+module _ {vs : List ℤ} {X : Point} {F : Frame} {l m : List ℕ} {first i : ℕ} (s : SectorsTo vs X F l m first i)
     (h : i < vertexCount vs) (r : vertexCount vs * 2 ≤ length l) (a w : ℕ) where
   abbrev put : List ℕ
   put = set (set m (i * 2) a) (i * 2 + 1) w
@@ -65,26 +67,30 @@ module _ {vs : List ℤ} {F : Frame} {l m : List ℕ} {first i : ℕ} (s : Secto
       getD-set-other (set m (i * 2) a) (i * 2 + 1) k w 0 (λ e. omega arith)
       ∙ getD-set-other m (i * 2) k a 0 (λ e. omega arith)
 
-  module _ {second : ℕ} (e : second ≡ azimuthOf F (endOf vs i)) (below : second < 65536)
-      (starts : a ≡ sectorStart first second) (widths : w ≡ sectorWidth first second) where
-    pub sectors-step : SectorsTo vs F l put second (i + 1)
+  module _ {second : ℕ} {left : Bool} (e : second ≡ azimuthOf F (endOf vs i)) (below : second < 65536)
+      (turn : left ≡ isLeft X (startOf vs i) (endOf vs i))
+      (starts : a ≡ sectorStart left first second) (widths : w ≡ sectorWidth left first second) where
+    part-same : (part : Bool → ℕ → ℕ → ℕ) → part left first second ≡ sectorPart part vs X F i
+    part-same part = rw (turn, s .start h, e)
+
+    pub sectors-step : SectorsTo vs X F l put second (i + 1)
     sectors-step = record {
       room = put-room ∙ s .room;
       before = omega arith;
       below = below;
       start = λ k. e ∙ ap (azimuthOf F) (next-start vs i (i + 1) refl k);
       starts = λ j k. ⊎-elim
-          (λ q. rw q (put-start ∙ starts ∙ ap₂ sectorStart (s .start h) e))
+          (λ q. rw q (put-start ∙ starts ∙ part-same sectorStart))
           (λ b. put-other (j * 2) (omega arith) ∙ s .starts j b)
           (eq-or-lt-of-le {n = j} {m = i} (omega arith));
       widths = λ j k. ⊎-elim
-          (λ q. rw q (put-width ∙ widths ∙ ap₂ sectorWidth (s .start h) e))
+          (λ q. rw q (put-width ∙ widths ∙ part-same sectorWidth))
           (λ b. put-other (j * 2 + 1) (omega arith) ∙ s .widths j b)
           (eq-or-lt-of-le {n = j} {m = i} (omega arith));
     }
 
-pub sectors-end : {vs : List ℤ} {F : Frame} {l m : List ℕ} {first i : ℕ} → SectorsTo vs F l m first i →
-    vertexCount vs ≤ i → vertexCount vs * 2 ≤ length l → SectorsOf vs F m
+pub sectors-end : {vs : List ℤ} {X : Point} {F : Frame} {l m : List ℕ} {first i : ℕ} → SectorsTo vs X F l m first i →
+    vertexCount vs ≤ i → vertexCount vs * 2 ≤ length l → SectorsOf vs X F m
 sectors-end s h r = record {
   room = omega (arith, s .room);
   starts = λ j k. s .starts j (omega arith);

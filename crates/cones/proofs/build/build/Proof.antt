@@ -3,7 +3,7 @@ use borrow.Author.Needs.{needs}
 use Rattle.sphere.specs.Point.{fine, limitOf, Within}
 use Rattle.sphere.proofs.Laws.Plane.{grid→fine}
 use Rattle.polygon.specs.Accepted.{Accepted}
-use Rattle.polygon.proofs.Laws.Checks.{gridded-fine, accept-passed, accepted-some}
+use Rattle.polygon.proofs.Laws.Checks.{accept-passed, accepted-some}
 use Rattle.cones.proofs.build.build.Statement.{statement}
 use Rattle.cones.proofs.build.build.Tie as tie
 
@@ -24,12 +24,7 @@ put-sectors-requires : tie.Need-put-sectors-requires
 put-sectors-requires c κs =
     let f = c .before in
     let s = f .before .before .before .before .before .before in
-    let w = f .frame-of .ensures .within fine (known s) in (
-      accepted s .listed,
-      gridded-fine (s .args .grid) (accepted s .gridded),
-      record { east = w .0; north = w .1 },
-      s .pre .0 .1,
-    )
+    (s .pre .0 .0, f .frame-of .ensures, s .pre .0 .1)
 
 grow-roots-requires : tie.Need-grow-roots-requires
 grow-roots-requires c κs =

@@ -1,4 +1,5 @@
--- `tally_edges` meets its contract: the query's azimuth is in the node's cone, for which its list is complete.
+-- `tally_edges` meets its contract: the query's azimuth is in the node's cone, for which its list is complete, or the
+-- boxes are asked.
 use mathlib.Core.Path.{_≡_, sym, _∙_, ap₂, subst}
 use mathlib.Core.Bool.{true, _&&_}
 use Prim.Native.Nat.{ℕ, _*_, _-_, _≤_, _<_}
@@ -160,11 +161,11 @@ same-length c = search needs
 returns : tie.Need-returns
 returns c = search needs
 
-returns-2 : tie.Need-returns-2
-returns-2 c = search needs
+search-edges-requires : tie.Need-search-edges-requires
+search-edges-requires c κs = search needs
 
-returns-3 : tie.Need-returns-3
-returns-3 c = search needs
+returns-2 : tie.Need-returns-2
+returns-2 c = c .search-edges .ensures .0
 
 pub tally-edges-spec : {M : Type 1} → statement M
 tally-edges-spec =
@@ -181,5 +182,5 @@ tally-edges-spec =
     tally-near-requires
     same-length
     returns
-    returns-2
-    returns-3)
+    search-edges-requires
+    returns-2)

@@ -3,26 +3,49 @@ use mathlib.Core.Path.{_∙_, ap}
 use Prim.Native.Nat.{_-_}
 use native.Mathlib.Omega.{arith}
 use lib.ListN.{length-set}
+use Rattle.sphere.specs.Point.{fine, limitOf}
+use Rattle.sphere.proofs.Laws.Plane.{grid→fine}
+use Rattle.polygon.specs.Accepted.{Listed, Gridded}
+use Rattle.polygon.proofs.Laws.Checks.{Reference, reference-accepted, gridded-fine}
 use Rattle.polygon.proofs.Laws.Edges.{end-within}
 use Rattle.cones.specs.Azimuth.{azimuthOf}
+use Rattle.cones.specs.Sectors.{FrameGridded}
+use Rattle.cones.proofs.Laws.Sectors.{turn-short}
 use Rattle.cones.proofs.Laws.SectorsTo.{SectorsTo, sectors-start, sectors-step, sectors-end}
 use Rattle.cones.proofs.sectors.put_sectors.Statement.{statement}
 use Rattle.cones.proofs.sectors.put_sectors.Tie as tie
 
 abbrev Inv-loop : tie.InvT-loop
-Inv-loop vertices frame spans₀ n first₀ i₀ sectors first i = SectorsTo vertices frame spans₀ sectors first i
+Inv-loop grid vertices known frame sectors₀ n first₀ i₀ sectors first i =
+    SectorsTo vertices known frame sectors₀ sectors first i
 
 abbrev μ-loop : tie.MeasureT-loop
-μ-loop vertices frame spans₀ n first₀ i₀ sectors first i = n - i
+μ-loop grid vertices known frame sectors₀ n first₀ i₀ sectors first i = n - i
+
+-- The polygon and the frame, on either grid.
+module _ (s : tie.Start Inv-loop μ-loop) where
+  reference : Reference (limitOf (s .args .grid)) (s .args .vertices .now) (s .args .known)
+  reference = reference-accepted _ _ _ (s .pre .0)
+
+  listed : Listed (s .args .vertices .now)
+  listed = reference .accepted .listed
+
+  gridded : Gridded fine (s .args .vertices .now)
+  gridded = gridded-fine (s .args .grid) (reference .accepted .gridded)
+
+  framed : FrameGridded (s .args .frame)
+  framed =
+      let w = s .pre .1 .within fine (grid→fine (s .args .grid) (reference .accepted .known)) in
+      record { east = w .0; north = w .1 }
 
 vertex-at-requires : tie.Need-vertex-at-requires Inv-loop μ-loop
-vertex-at-requires c κs = omega (arith, c .before .pre .0 .least)
+vertex-at-requires c κs = omega (arith, listed (c .before) .least)
 
 azimuth-requires : tie.Need-azimuth-requires Inv-loop μ-loop
 azimuth-requires c κs =
     let s = c .before .before in
-    let point = s .pre .1 .each 0 (omega (arith, s .pre .0 .least)) in
-    record { frame = s .pre .2; point = rw (c .vertex-at .ensures) point }
+    let point = gridded s .each 0 (omega (arith, listed s .least)) in
+    record { frame = framed s; point = rw (c .vertex-at .ensures) point }
 
 loop-holds : tie.Need-loop-holds Inv-loop μ-loop
 loop-holds c =
@@ -37,10 +60,27 @@ azimuth-requires-2 : tie.Need-azimuth-requires-2 Inv-loop μ-loop
 azimuth-requires-2 c κs =
     let t = c .before in
     let s = t .before .before .before .before .before in
-    record { frame = s .pre .2; point = end-within (s .pre .1) (t .loop-test .taken) (c .end-of .ensures) }
+    record { frame = framed s; point = end-within (gridded s) (t .loop-test .taken) (c .end-of .ensures) }
+
+turns-left-requires : tie.Need-turns-left-requires Inv-loop μ-loop
+turns-left-requires c κs =
+    let t = c .before .before in
+    let a = reference (t .before .before .before .before .before) .accepted in
+    (a .listed, a .gridded, a .known, t .loop-test .taken)
 
 sector-of-requires : tie.Need-sector-of-requires Inv-loop μ-loop
-sector-of-requires c κs = (c .before .before .before .loop .inv .below, c .azimuth2 .ensures .1)
+sector-of-requires c κs =
+    let az = c .before in
+    let t = az .before .before in
+    let s = t .before .before .before .before .before in
+    let inv = t .before .loop .inv in
+    let i = t .loop-test .taken in
+    let second = az .azimuth2 .ensures in
+    let short = turn-short (s .pre .1) _ _ (reference s .off-circle _ i) in (
+      inv .below,
+      second .1,
+      rw (c .turns-left .ensures, inv .start i, second .0, az .before .end-of .ensures) (omega (arith, short)),
+    )
 
 -- The turn of the loop, by its second number.
 module _ (c : tie.After-put-number-arg2 Inv-loop μ-loop) where
@@ -51,40 +91,40 @@ module _ (c : tie.After-put-number-arg2 Inv-loop μ-loop) where
   sectors-of = first-put .before .before
 
   abbrev turn : tie.In-loop Inv-loop μ-loop
-  turn = sectors-of .before .before .before
+  turn = sectors-of .before .before .before .before
 
 mul-put-number : tie.Need-mul-put-number Inv-loop μ-loop
 mul-put-number c =
-    let t = c .before .before .before .before in
-    omega (arith, t .loop-test .taken, t .before .before .before .before .before .pre .0 .most)
+    let t = c .before .before .before .before .before in
+    omega (arith, t .loop-test .taken, listed (t .before .before .before .before .before) .most)
 
 put-number-requires : tie.Need-put-number-requires Inv-loop μ-loop
 put-number-requires c κs =
-    let t = c .before .before .before .before in
+    let t = c .before .before .before .before .before in
     let s = t .before .before .before .before .before in
-    (omega (arith, t .loop-test .taken, t .before .loop .inv .room, s .pre .3), c .before .sector-of .ensures .2)
+    (omega (arith, t .loop-test .taken, t .before .loop .inv .room, s .pre .2), c .before .sector-of .ensures .2)
 
 mul-put-number-2 : tie.Need-mul-put-number-2 Inv-loop μ-loop
 mul-put-number-2 c =
-    let t = turn c in omega (arith, t .loop-test .taken, t .before .before .before .before .before .pre .0 .most)
+    let t = turn c in omega (arith, t .loop-test .taken, listed (t .before .before .before .before .before) .most)
 
 add-put-number : tie.Need-add-put-number Inv-loop μ-loop
 add-put-number c =
-    let t = turn c in omega (arith, t .loop-test .taken, t .before .before .before .before .before .pre .0 .most)
+    let t = turn c in omega (arith, t .loop-test .taken, listed (t .before .before .before .before .before) .most)
 
 put-number-requires-2 : tie.Need-put-number-requires-2 Inv-loop μ-loop
 put-number-requires-2 c κs =
     let t = turn c in
     let s = t .before .before .before .before .before in (
       rw (first-put c .put-number .ensures, length-set)
-          (omega (arith, t .loop-test .taken, t .before .loop .inv .room, s .pre .3)),
+          (omega (arith, t .loop-test .taken, t .before .loop .inv .room, s .pre .2)),
       sectors-of c .sector-of .ensures .3,
     )
 
 add-i : tie.Need-add-i Inv-loop μ-loop
 add-i c =
     let t = turn (c .before .before .before) in
-    omega (arith, t .loop-test .taken, t .before .before .before .before .before .pre .0 .most)
+    omega (arith, t .loop-test .taken, listed (t .before .before .before .before .before) .most)
 
 loop-less : tie.Need-loop-less Inv-loop μ-loop
 loop-less c = omega (arith, turn (c .before .before .before) .loop-test .taken)
@@ -96,19 +136,20 @@ loop-again c =
     let t = turn k in
     let s = t .before .before .before .before .before in
     let sector = sectors-of k in
-    let az = sector .before in
+    let az = sector .before .before in
     rw (put .put-number2 .ensures, first-put k .put-number .ensures)
-    (sectors-step (t .before .loop .inv) (t .loop-test .taken) (s .pre .3) (sector .sector-of .result .start)
+    (sectors-step (t .before .loop .inv) (t .loop-test .taken) (s .pre .2) (sector .sector-of .result .start)
     (sector .sector-of .result .width)
     (az .azimuth2 .ensures .0 ∙ ap (azimuthOf (s .args .frame)) (az .before .end-of .ensures))
-    (az .azimuth2 .ensures .1) (sector .sector-of .ensures .0) (sector .sector-of .ensures .1))
+    (az .azimuth2 .ensures .1) (sector .before .turns-left .ensures) (sector .sector-of .ensures .0)
+    (sector .sector-of .ensures .1))
 
 same-length : tie.Need-same-length Inv-loop μ-loop
 same-length c = c .before .loop .inv .room
 
 returns : tie.Need-returns Inv-loop μ-loop
 returns c =
-    let l = c .before in sectors-end (l .loop .inv) (c .loop-test .left) (l .before .before .before .before .pre .3)
+    let l = c .before in sectors-end (l .loop .inv) (c .loop-test .left) (l .before .before .before .before .pre .2)
 
 pub put-sectors-spec : {M : Type 1} → statement M
 put-sectors-spec =
@@ -121,6 +162,7 @@ put-sectors-spec =
     loop-holds
     end-of-requires
     azimuth-requires-2
+    turns-left-requires
     sector-of-requires
     mul-put-number
     put-number-requires

@@ -1,61 +1,81 @@
--- `tell` meets its contract: what was tallied of the edges that the entries before e cover, and entry e, are tallied of
--- those that the entries before e + 1 cover, as in `walk_list`.
-use mathlib.Core.Path.{_≡_, refl, sym, _∙_, ap, subst}
-use mathlib.Core.Bool.{false}
+-- `tell` meets its contract: what is tallied before entry e, and what its edge says, is tallied before entry e + 1.
+use mathlib.Core.Path.{_≡_, sym, _∙_, ap, subst}
+use mathlib.Core.Bool.{true, cond}
 use mathlib.Core.List.{List}
-use mathlib.Core.Logic.{⊎-elim}
 use Prim.Native.Nat.{ℕ, _+_, _-_, _≤_, _<_}
-use native.Mathlib.Numerals.{add-one}
 use native.Mathlib.Omega.{arith}
-use borrow.Author.Needs.{needs}
+use borrow.Author.Needs.{needs, sfits-of}
+use borrow.Author.Tests.{not-false}
 use lib.IntN.{ℤ, _+ℤ_}
 use lib.ListN.{getD}
-use mir.Syntax.{w32, w64}
-use mir.Val.{SFits, toZ, ofZ}
+use mir.Syntax.{w32}
+use mir.Val.{toZ, ofZ}
 use mir.ValLaws.{toZ-ofZ}
-use Rattle.integers.specs.Sign.{signOf}
-use Rattle.integers.proofs.Compare.{result-sign, zero-bits, zero-no}
+use Rattle.integers.specs.Sign.{positive, negative, signOf, unitOf}
+use Rattle.sphere.specs.declared.point.Point.{Point}
 use Rattle.sphere.specs.Point.{limitOf, Within}
 use Rattle.sphere.specs.Orientation.{orientationOf}
 use Rattle.sphere.proofs.Laws.Plane.{Made, plane-made, made-within, made-turn}
+use Rattle.answer.proofs.Laws.Chain.{both-true}
 use Rattle.polygon.specs.Vertices.{vertexCount, startOf, endOf}
-use Rattle.polygon.specs.Verdict.{isHeldBy, wayOf}
-use Rattle.polygon.proofs.Laws.Edges.{start-within, end-within}
-use Rattle.search.specs.declared.arc.Arc.{Arc}
-use Rattle.search.specs.declared.walk.EdgeTest.the-variants.{Way}
+use Rattle.polygon.proofs.Laws.Checks.{accept-passed}
+use Rattle.polygon.proofs.Laws.Edges.{ends-within}
 use Rattle.search.specs.declared.walk.Tally.the-variants.{Crossed}
-use Rattle.search.specs.Walk.{tallyFrom, NoneBefore}
-use Rattle.search.proofs.Laws.Arc.{arc-side, reference}
-use Rattle.search.proofs.Laws.EdgeTest.{way-by}
-use Rattle.search.proofs.Laws.Tally.{Tallied, tallied-end, tallied-few, tally-all, test-way, sum-fits}
-use Rattle.search.proofs.Laws.Tally.{none-start, none-before}
-use Rattle.cones.specs.Cones.{Idle, Covers, keep, Told}
-use Rattle.cones.proofs.Laws.Covers.{AtEntry, covers-at, Walked, walk-start, walk-step}
-use Rattle.cones.proofs.Laws.Close.{off-not-on}
+use Rattle.search.specs.Walk.{tallyFrom}
+use Rattle.cones.specs.Cones.{Idle, Complete, Walked, Coming}
+use Rattle.cones.specs.Sectors.{wayBy, Telling}
+use Rattle.cones.proofs.Laws.Covers.{AtEntry, covers-at, Added, walk-add}
+use Rattle.cones.proofs.Laws.Close.{told-way}
 use Rattle.cones.proofs.told.tell.Statement.{statement}
 use Rattle.cones.proofs.told.tell.Tie as tie
 
--- Before entry e.
-record Come (vs : List ℤ) (arc : Arc) (l : List ℕ) (to crossed : ℕ) (sum : ℤ) (e : ℕ) : Type 0 where
+-- What the contract gives of the reference point X, which the loop does not see.
+record Given (vs : List ℤ) (X P : Point) (sectors : List ℕ) (k : ℕ) (l : List ℕ) (to e c : ℕ) (s : ℤ) : Type 0 where
+  telling : Telling vs X P sectors k
+  complete : Complete (Idle vs X P) (vertexCount vs) l 0 to
+  walked : Walked vs X P l e c s
+
+-- Before entry e, from entry e₀ on.
+record Come (vs : List ℤ) (P : Point) (sectors : List ℕ) (k : ℕ) (l : List ℕ) (to e₀ crossed₀ : ℕ) (sum₀ : ℤ)
+    (e crossed : ℕ) (sum : ℤ) : Type 0 where
+  after : e₀ ≤ e
   before : e ≤ to
-  walked : Walked vs (arc .from) (arc .to) l 0 e crossed sum
+  walked : (X : Point) → Given vs X P sectors k l to e₀ crossed₀ sum₀ → Walked vs X P l e crossed sum
 
 abbrev Inv-loop : tie.InvT-loop
-Inv-loop vertices arc list to plane grid crossed₀ sum₀ e₀ crossed sum e =
-    Come vertices arc list to crossed (toZ w32 sum) e
+Inv-loop grid vertices query sectors k list to e₀ crossed₀ sum₀ e crossed sum =
+    Come vertices query sectors k list to e₀ crossed₀ (toZ w32 sum₀) e crossed (toZ w32 sum)
 
 abbrev μ-loop : tie.MeasureT-loop
-μ-loop vertices arc list to plane grid crossed₀ sum₀ e₀ crossed sum e = to - e
+μ-loop grid vertices query sectors k list to e₀ crossed₀ sum₀ e crossed sum = to - e
 
 loop-holds : tie.Need-loop-holds Inv-loop μ-loop
-loop-holds c = record { before = omega arith; walked = walk-start }
+loop-holds c =
+    record { after = omega arith; before = c .before .before .before .pre .1 .1 .1 .before; walked = λ X g. g .walked }
+
+-- A reference point for which the contract's facts hold, as the loop's invariant has it.
+module _ (o : tie.At-loop Inv-loop μ-loop) where
+  abbrev start : tie.Start Inv-loop μ-loop
+  start = o .before .before .before .before
+
+  abbrev GivenOf : Point → Type 0
+  GivenOf X =
+      let a = start .args in
+      Given (a .vertices .now) X (a .query) (a .sectors .now) (a .k) (a .list .now) (a .to) (a .told .at)
+      (a .told .crossed) (toZ w32 (ofZ w32 (a .told .sum)))
+
+  given : GivenOf (start .args .known)
+  given =
+      let p = start .pre .1 in
+      let fit = sfits-of {z = start .args .told .sum} (o .before .struct-told .given .1 .1 .0 .1) in
+      record { telling = p .0 .0; complete = p .1 .0; walked = rw (toZ-ofZ w32 _ fit) (p .1 .1 .walked) }
 
 mul-wide : tie.Need-mul-wide Inv-loop μ-loop
 mul-wide c = search needs
 
 shared-slice-read-wide : tie.Need-shared-slice-read-wide Inv-loop μ-loop
 shared-slice-read-wide c =
-    let e = c .before in omega (arith, e .if1 .left, e .before .before .before .before .pre .1 .within)
+    let t = c .before in omega (arith, t .loop-test .taken, start (t .before) .pre .1 .1 .0 .within)
 
 wide-requires : tie.Need-wide-requires Inv-loop μ-loop
 wide-requires c κs = search needs
@@ -66,25 +86,26 @@ module _ (c : tie.After-wide Inv-loop μ-loop) where
   own = c .before .before .before
 
   abbrev entry : tie.Start Inv-loop μ-loop
-  entry = own .before .before .before
+  entry = start own
 
   abbrev vs : List ℤ
   vs = entry .args .vertices .now
+
+  abbrev P : Point
+  P = entry .args .query
 
   abbrev l : List ℕ
   l = entry .args .list .now
 
   less : own .loop .e < entry .args .to
-  less = c .before .before .if1 .left
+  less = c .before .before .loop-test .taken
 
-  at : AtEntry (Idle vs (entry .args .arc .from) (entry .args .arc .to)) l 0 (vertexCount vs) (own .loop .e)
-  at = covers-at (entry .pre .1 .covers) (own .loop .e) (omega arith) less
-
-  few : getD l (own .loop .e) 0 + 1 ≤ 4096
-  few = omega (arith, at .below, reference (entry .pre .0) .accepted .listed .most)
+  at : (X : Point) → Complete (Idle vs X P) (vertexCount vs) l 0 (entry .args .to) →
+      AtEntry (Idle vs X P) l 0 (vertexCount vs) (own .loop .e)
+  at X h = covers-at (h .covers) (own .loop .e) (omega arith) less
 
   below : c .wide .result < vertexCount vs
-  below = omega (arith, c .wide .ensures .0, at .below)
+  below = omega (arith, c .wide .ensures .0, at (entry .args .known) (entry .pre .1 .1 .0) .below)
 
 vertex-at-requires : tie.Need-vertex-at-requires Inv-loop μ-loop
 vertex-at-requires c κs = omega (arith, below c)
@@ -97,141 +118,83 @@ module _ (c : tie.After-end-of Inv-loop μ-loop) where
   abbrev here : tie.After-wide Inv-loop μ-loop
   here = c .before .before
 
-  A : Within (limitOf (entry here .args .arc .plane .grid)) (c .before .vertex-at .result)
-  A =
-      start-within (reference (entry here .pre .0) .accepted .gridded) (below here)
-      (record { start = λ h. c .before .vertex-at .ensures })
-
-  B : Within (limitOf (entry here .args .arc .plane .grid)) (c .end-of .result)
-  B = end-within (reference (entry here .pre .0) .accepted .gridded) (below here) (c .end-of .ensures)
+  ends : Within (limitOf (entry here .args .grid)) (c .before .vertex-at .result)
+      × Within (limitOf (entry here .args .grid)) (c .end-of .result)
+  ends =
+      let grid = accept-passed (entry here .pre .0 .0) .gridded in
+      ends-within grid (below here) (c .before .vertex-at .ensures) (c .end-of .ensures)
 
 plane-through-requires : tie.Need-plane-through-requires Inv-loop μ-loop
-plane-through-requires c κs = (A c, B c)
+plane-through-requires c κs = ends c
 
 -- The edge's own plane.
-module _ (c : tie.After-plane-through Inv-loop μ-loop) where
-  abbrev ends : tie.After-end-of Inv-loop μ-loop
-  ends = c .before
+made : (c : tie.After-plane-through Inv-loop μ-loop) →
+    Made (entry (here (c .before)) .args .grid) (c .before .before .vertex-at .result) (c .before .end-of .result)
+    (c .plane-through .result)
+made c =
+    let e = c .before in
+    plane-made (entry (here e) .args .grid) _ _ (ends e .0) (ends e .1) (c .plane-through .ensures)
 
-  made : Made (entry (here ends) .args .arc .plane .grid) (ends .before .vertex-at .result) (ends .end-of .result)
-      (c .plane-through .result)
-  made =
-      plane-made (entry (here ends) .args .arc .plane .grid) _ _ (A ends) (B ends) (c .plane-through .ensures)
+sure-side-requires : tie.Need-sure-side-requires Inv-loop μ-loop
+sure-side-requires c κs = (made c .sound, made-within (made c) (entry (here (c .before)) .pre .0 .1))
 
-side-of-requires : tie.Need-side-of-requires Inv-loop μ-loop
-side-of-requires c κs = (made c .sound, made-within (made c) (entry (here (ends c)) .pre .0 .sound .query))
+passage-at-requires : tie.Need-passage-at-requires Inv-loop μ-loop
+passage-at-requires c κs =
+    let w = here (c .before .before) in (omega (arith, below w, entry w .pre .1 .0 .0 .room), entry w .pre .1 .0 .1)
 
--- On which side of it the query lies.
-module _ (c : tie.After-side-of Inv-loop μ-loop) where
-  abbrev corner : tie.After-end-of Inv-loop μ-loop
-  corner = ends (c .before)
-
-  abbrev s : tie.Start Inv-loop μ-loop
-  s = entry (here corner)
-
-  side-of-query : signOf (c .side-of .result)
-      ≡ signOf (orientationOf (corner .before .vertex-at .result) (corner .end-of .result) (s .args .arc .to))
-  side-of-query = c .side-of .ensures ∙ ap signOf (made-turn (made (c .before)) (s .args .arc .to))
-
-  of-edge : signOf (c .side-of .result)
-      ≡ signOf (orientationOf (startOf (s .args .vertices .now) (here corner .wide .result))
-      (endOf (s .args .vertices .now) (here corner .wide .result)) (s .args .arc .to))
-  of-edge =
-      side-of-query ∙ (λ j. signOf (orientationOf (corner .before .vertex-at .ensures j) (corner .end-of .ensures j)
-      (s .args .arc .to)))
-
-side-of-requires-2 : tie.Need-side-of-requires-2 Inv-loop μ-loop
-side-of-requires-2 c κs = let q = c .before in (s q .pre .0 .sound .sound, A (corner q))
-
-side-of-requires-3 : tie.Need-side-of-requires-3 Inv-loop μ-loop
-side-of-requires-3 c κs = let q = c .before .before in (s q .pre .0 .sound .sound, B (corner q))
-
-side-of-requires-4 : tie.Need-side-of-requires-4 Inv-loop μ-loop
-side-of-requires-4 c κs =
-    let q = c .before .before .before in
-    (made (q .before) .sound, made-within (made (q .before)) (s q .pre .0 .sound .known))
-
-crossing-by-requires : tie.Need-crossing-by-requires Inv-loop μ-loop
-crossing-by-requires c κs = search needs
+way-by-requires : tie.Need-way-by-requires Inv-loop μ-loop
+way-by-requires c κs = search needs
 
 counted-requires : tie.Need-counted-requires Inv-loop μ-loop
 counted-requires c κs = search needs
 
 -- The edge is tallied.
 module _ (c : tie.After-counted Inv-loop μ-loop) where
-  abbrev four : tie.After-side-of4 Inv-loop μ-loop
-  four = c .before .before
-
-  abbrev off : tie.Else2 Inv-loop μ-loop
-  off = four .before .before .before
-
-  abbrev q : tie.After-side-of Inv-loop μ-loop
-  q = off .before
+  abbrev pass : tie.After-passage-at Inv-loop μ-loop
+  pass = c .before .before .before .before .before
 
   abbrev w : tie.After-wide Inv-loop μ-loop
-  w = here (corner q)
+  w = here (pass .before .before .before)
 
   abbrev way : ℤ
-  way = c .before .crossing-by .result
+  way = c .before .way-by .result
 
-  fit : SFits w32 way
-  fit = record { sfits = c .before .crossing-by .ok }
+  sure : (pass .before .sure-side .result .sure ≡ true) × (pass .passage-at .result .inside ≡ true)
+  sure =
+      let inside = pass .passage-at .result .inside in
+      both-true (pass .before .sure-side .result .sure) inside (not-false _ (c .before .before .if1 .left))
 
-  unheld : isHeldBy (vs w) (s q .args .arc .to) (w .wide .result) ≡ false
-  unheld =
-      off-not-on _ _ _ (rw (← of-edge q) (zero-no w64 (q .side-of .result) (record { sfits = q .side-of .ok })
-      (off .if2 .left)))
+  -- on which side of it the query lies
+  side : signOf (orientationOf (startOf (vs w) (w .wide .result)) (endOf (vs w) (w .wide .result)) (P w))
+      ≡ cond (pass .before .sure-side .result .left) positive negative
+  side =
+      let plane = pass .before .before in
+      let e = plane .before in
+      sym (λ j. signOf (orientationOf (e .before .vertex-at .ensures j) (e .end-of .ensures j) (P w)))
+      ∙ sym (ap signOf (made-turn (made plane) (P w))) ∙ pass .before .sure-side .ensures .side (sure .0)
 
-  told : wayOf (vs w) (s q .args .arc .from) (s q .args .arc .to) (w .wide .result) ≡ way
-  told =
-      let n = s q .args .arc in
-      let e = corner q in
-      let k = four .before .before in
-      let first = result-sign w64 (k .side-of2 .result) (k .side-of2 .ok) (k .side-of2 .ensures
-      ∙ ap signOf (arc-side (s q .pre .0 .sound) _)
-      ∙ ap (λ p. signOf (orientationOf (n .from) (n .to) p)) (e .before .vertex-at .ensures)) in
-      let second = result-sign w64 (four .before .side-of3 .result) (four .before .side-of3 .ok)
-      (four .before .side-of3 .ensures ∙ ap signOf (arc-side (s q .pre .0 .sound) _)
-      ∙ ap (λ p. signOf (orientationOf (n .from) (n .to) p)) (e .end-of .ensures)) in
-      let third = result-sign w64 (four .side-of4 .result) (four .side-of4 .ok) (four .side-of4 .ensures
-      ∙ ap signOf (made-turn (made (q .before)) _)) in
-      let fourth = result-sign w64 (q .side-of .result) (q .side-of .ok) (side-of-query q) in
-      let s1 = toZ w64 (ofZ w64 (k .side-of2 .result)) in
-      let s2 = toZ w64 (ofZ w64 (four .before .side-of3 .result)) in
-      let s3 = toZ w64 (ofZ w64 (four .side-of4 .result)) in
-      let s4 = toZ w64 (ofZ w64 (q .side-of .result)) in
-      sym (way-by (n .from) (n .to) s1 s2 s3 s4 (c .before .crossing-by .ensures) third first second fourth
-      (e .before .vertex-at .ensures) (e .end-of .ensures))
+  one : (X : Point) → GivenOf (own w) X →
+      tallyFrom (vs w) X (P w) (getD (l w) (own w .loop .e) 0) 1 ≡ Crossed (c .counted .result) way
+  one X g =
+      let left = pass .before .sure-side .result .left in
+      let inside = sym (pass .passage-at .ensures .0) ∙ sure .1 in
+      let same = c .before .way-by .ensures ∙ ap (λ b. unitOf (wayBy b left)) (pass .passage-at .ensures .1) in
+      subst (λ j. tallyFrom (vs w) X (P w) j 1 ≡ Crossed (c .counted .result) way) (w .wide .ensures .0)
+      (told-way (g .telling) (w .wide .result) (below w) inside left side same
+      (rw (toZ-ofZ w32 way (sfits-of (c .before .way-by .ok))) at (c .counted .ensures)))
 
-  one : tallyFrom (vs w) (s q .args .arc .from) (s q .args .arc .to) (getD (l w) (own w .loop .e) 0) 1
-      ≡ Crossed (c .counted .result) way
-  one =
-      subst (λ j. tallyFrom (vs w) (s q .args .arc .from) (s q .args .arc .to) j 1 ≡ Crossed (c .counted .result) way)
-      (w .wide .ensures .0)
-      (test-way (vs w) (s q .args .arc .from) (s q .args .arc .to) (w .wide .result) (rw unheld (ap Way told))
-      (rw (toZ-ofZ w32 way fit) at (c .counted .ensures)))
-
-  next : Walked (vs w) (s q .args .arc .from) (s q .args .arc .to) (l w) 0 (own w .loop .e + 1)
-      (own w .loop .crossed + c .counted .result) (toZ w32 (own w .loop .sum) +ℤ way)
-  next = walk-step (omega arith) (own w .loop .inv .walked) one
-
-  -- up to the entry's own edge
-  tallied : Tallied (vs w) (s q .args .arc .from) (s q .args .arc .to) 0 (getD (l w) (own w .loop .e) 0 + 1)
-      (own w .loop .crossed + c .counted .result) (toZ w32 (own w .loop .sum) +ℤ way)
-  tallied = next .tallied _ (rw (add-one, add-one) (keep (at w .before) refl))
-
-  -- the sum, as the local holds it
-  same-sum : toZ w32 (ofZ w32 (toZ w32 (own w .loop .sum) +ℤ toZ w32 (ofZ w32 way)))
-      ≡ toZ w32 (own w .loop .sum) +ℤ way
-  same-sum =
-      toZ-ofZ w32 _ (sum-fits (own w .loop .sum) way fit (few w) tallied)
-      ∙ ap (λ k. toZ w32 (own w .loop .sum) +ℤ k) (toZ-ofZ w32 way fit)
+  added : (X : Point) → GivenOf (own w) X →
+      Added (vs w) X (P w) (l w) (own w .loop .e) (own w .loop .crossed + c .counted .result)
+      (toZ w32 (own w .loop .sum) +ℤ toZ w32 (ofZ w32 way))
+  added X g =
+      walk-add (own w .loop .sum) way (accept-passed (entry w .pre .0 .0) .listed .most)
+      (sfits-of (c .before .way-by .ok)) (at w X (g .complete)) (own w .loop .inv .walked X g) (one X g)
 
 add-crossed : tie.Need-add-crossed Inv-loop μ-loop
-add-crossed c = omega (arith, tallied-few (tallied c), few (w c))
+add-crossed c = omega (arith, added c _ (given (own (w c))) .few)
 
 add-sum : tie.Need-add-sum Inv-loop μ-loop
-add-sum c = sum-fits (own (w c) .loop .sum) (way c) (fit c) (few (w c)) (tallied c)
+add-sum c = added c _ (given (own (w c))) .fits
 
 add-e : tie.Need-add-e Inv-loop μ-loop
 add-e c = omega (arith, less (w c), entry (w c) .fits .to)
@@ -240,45 +203,25 @@ loop-less : tie.Need-loop-less Inv-loop μ-loop
 loop-less c = omega (arith, less (w c))
 
 loop-again : tie.Need-loop-again Inv-loop μ-loop
-loop-again c = record { before = omega (arith, less (w c)); walked = rw (same-sum c) (next c) }
+loop-again c = record {
+  after = omega (arith, own (w c) .loop .inv .after);
+  before = omega (arith, less (w c));
+  walked = λ X g. added c X g .walked;
+}
 
-tally-by-requires : tie.Need-tally-by-requires Inv-loop μ-loop
-tally-by-requires c κs = search needs
+-- Where the loop is left.
+come : (o : tie.At-loop Inv-loop μ-loop) →
+    let a = start o .args in
+    Coming (a .vertices .now) (a .known) (a .query) (a .list .now) (a .to)
+    (record { at = o .loop .e; crossed = o .loop .crossed; sum = toZ w32 (o .loop .sum) }) × (a .told .at ≤ o .loop .e)
+come o =
+    let inv = o .loop .inv in (record { before = inv .before; walked = inv .walked _ (given o) }, inv .after)
 
--- Where the loop is left: all entries are passed, or the query lies on the circle of the entry at hand.
 returns : tie.Need-returns Inv-loop μ-loop
-returns c =
-    let o = c .before .before in
-    let inv = o .loop .inv in
-    let st = o .before .before .before in
-    let a = st .args in
-    let v = a .vertices .now in
-    let X = a .arc .from in
-    let P = a .arc .to in
-    let n = vertexCount v in
-    subst (Told v X P) (sym (c .tally-by .ensures)) (⊎-elim
-    (λ k.
-    let last : a .to ≡ o .loop .e = omega (arith, k .0 .taken, inv .before) in
-    let all = inv .walked .tallied n (subst (λ b. Covers (Idle v X P) (a .list .now) 0 n b) last
-    (st .pre .1 .covers)) in
-    rw (k .1) (tally-all v X P n (tallied-end all)))
-    (λ k.
-    let here = covers-at (st .pre .1 .covers) (o .loop .e) (omega arith) (k .0 .left) in
-    let below : k .2 .result < n = omega (arith, k .2 .ensures .0, here .below) in
-    let grid = reference (st .pre .0) .accepted .gridded in
-    let made = plane-made (a .arc .plane .grid) _ _
-    (start-within grid below (record { start = λ h. k .3 .ensures })) (end-within grid below (k .4 .ensures))
-    (k .5 .ensures) in
-    let zero = zero-bits w64 (k .6 .result) (record { sfits = k .6 .ok }) (k .7 .taken) in
-    rw (k .8) (record {
-      below = below;
-      level =
-          sym (k .6 .ensures ∙ ap signOf (made-turn made P)
-          ∙ (λ j. signOf (orientationOf (k .3 .ensures j) (k .4 .ensures j) P))) ∙ ap signOf zero;
-      none = subst (λ j. NoneBefore v P j) (sym (k .2 .ensures .0))
-          (none-before _ _ _ (omega arith) (none-start _ _) (inv .walked .tallied _ (here .before)));
-    }))
-    (c .before .if1 .came))
+returns c = come (c .before)
+
+returns-2 : tie.Need-returns-2 Inv-loop μ-loop
+returns-2 c = come (own (c .before .before .before .before .before .before .before .before))
 
 pub tell-spec : {M : Type 1} → statement M
 tell-spec =
@@ -293,16 +236,14 @@ tell-spec =
     vertex-at-requires
     end-of-requires
     plane-through-requires
-    side-of-requires
-    side-of-requires-2
-    side-of-requires-3
-    side-of-requires-4
-    crossing-by-requires
+    sure-side-requires
+    passage-at-requires
+    way-by-requires
     counted-requires
     add-crossed
     add-sum
     add-e
     loop-less
     loop-again
-    tally-by-requires
-    returns)
+    returns
+    returns-2)
