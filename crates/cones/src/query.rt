@@ -15,9 +15,9 @@ use crate::build::Index;
 use crate::sectors::wide;
 use crate::table::row_at;
 use crate::told::tally_near;
-use search::walk::Mode;
+use search::arc::arc_between;
+use search::border::tally_arc;
 use search::walk::Tally;
-use search::walk::search_edges;
 use sphere::orientation::dot;
 use sphere::point::Grid;
 use sphere::point::Point;
@@ -73,7 +73,8 @@ fn is_aside(u: i64, v: i64) -> bool
     v != 0
 }
 
-// What all edges say of a query, as search_edges does: by a node, where the query is in its cone, and else by the boxes.
+// What all edges say of a query, as a search by the boxes does: by a node, where the query is in its cone, and else by
+// the boxes. These by tally_arc: the compiler takes search_edges into its one caller, which short feeds go by.
 pub fn tally_edges(
     grid: Grid,
     vertices: &[i32],
@@ -86,7 +87,6 @@ pub fn tally_edges(
     index: Index,
     known: Point,
     query: Point,
-    mode: Mode,
 ) -> Tally
     requires { ⌜ (acceptCheck (limitOf grid) (now vertices) known ≡ Passed) × Within (limitOf grid) query
         × Boxed (now vertices) (now boxes) ⌝ }
@@ -117,5 +117,6 @@ pub fn tally_edges(
             );
         }
     }
-    search_edges(grid, vertices, boxes, known, query, mode).tally
+    let arc = arc_between(grid, known, query, true);
+    tally_arc(vertices, boxes, arc)
 }

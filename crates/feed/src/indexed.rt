@@ -70,6 +70,5 @@ pub fn judge_indexed(
         index,
         known,
         query,
-        mode,
     ))
 }

@@ -222,7 +222,7 @@ pub(crate) fn tally_held(vertices: &[i32], boxes: &[i32], arc: Arc, first: usize
 }
 
 // What all edges say of a query, by the arc to it.
-pub(crate) fn tally_arc(vertices: &[i32], boxes: &[i32], arc: Arc) -> Tally
+pub fn tally_arc(vertices: &[i32], boxes: &[i32], arc: Arc) -> Tally
     requires { ⌜ Searchable (now vertices) (now boxes) arc ⌝ }
     ensures { λ r. ⌜ r ≡ tallyFrom (now (vertices .entry)) (arc .from) (arc .to) 0
         (vertexCount (now (vertices .entry))) ⌝ }

@@ -2,7 +2,7 @@
 // (P3), and the walk over the edges, which hands back a tally. Each function is proved equal to its definition in
 // specs/.
 pub mod arc;
-mod border;
+pub mod border;
 pub mod boxes;
 mod looked;
 mod scan;

@@ -161,8 +161,8 @@ pub(crate) fn walk_spans(
     tally_by(found, crossed, sum)
 }
 
-// What all edges say of a query: by the boxes beside the polygon, or by all of it. As tally_arc, which has one caller:
-// so that tally_held has two, and the compiler leaves that rare path out of either.
+// What all edges say of a query: by the boxes beside the polygon, or by all of it. As tally_arc: so that tally_held has
+// two callers, and the compiler leaves that rare path out of either.
 fn tally_edges(
     grid: Grid,
     vertices: &[i32],

@@ -1,6 +1,6 @@
 -- `tally_edges` meets its contract: the query's azimuth is in the node's cone, for which its list is complete, or the
 -- boxes are asked.
-use mathlib.Core.Path.{_≡_, sym, _∙_, ap₂, subst}
+use mathlib.Core.Path.{_≡_, sym, _∙_, ap, ap₂, subst}
 use mathlib.Core.Bool.{true, _&&_}
 use Prim.Native.Nat.{ℕ, _*_, _-_, _≤_, _<_}
 use native.Mathlib.Omega.{arith}
@@ -19,6 +19,9 @@ use Rattle.sphere.proofs.Laws.Plane.{grid→fine}
 use Rattle.answer.proofs.Laws.Chain.{both-true}
 use Rattle.polygon.specs.Vertices.{vertexCount}
 use Rattle.polygon.proofs.Laws.Checks.{accept-passed, reference-accepted}
+use Rattle.search.specs.Arc.{arcOf}
+use Rattle.search.specs.Walk.{tallyFrom}
+use Rattle.search.proofs.Laws.Arc.{arc-searchable}
 use Rattle.cones.specs.Azimuth.{seen, azimuthBy, azimuthOf, AsideIf, Aside}
 use Rattle.cones.specs.Table.{Node}
 use Rattle.cones.proofs.Laws.Azimuth.{azimuth-below}
@@ -161,11 +164,27 @@ same-length c = search needs
 returns : tie.Need-returns
 returns c = search needs
 
-search-edges-requires : tie.Need-search-edges-requires
-search-edges-requires c κs = search needs
+-- Where the boxes are asked.
+abbrev asking : tie.After-arc-between → tie.Start
+asking c = c .before .before .before .before .before .before .before .before .before .before .before .before .before
+
+arc-between-requires : tie.Need-arc-between-requires
+arc-between-requires c κs =
+    let s = c .before .before .before .before .before .before .before .before .before .before .before .before in
+    (accept-passed (s .pre .0 .0) .known, s .pre .0 .1)
+
+tally-arc-requires : tie.Need-tally-arc-requires
+tally-arc-requires c κs =
+    let s = asking c in
+    arc-searchable (s .args .grid) (s .args .known) (s .args .query) true (s .pre .0 .0) (s .pre .0 .1) (s .pre .0 .2)
+    (c .arc-between .ensures)
 
 returns-2 : tie.Need-returns-2
-returns-2 c = c .search-edges .ensures .0
+unfolding arcOf
+returns-2 c =
+    let a = c .before in
+    let vs = asking a .args .vertices .now in
+    c .tally-arc .ensures ∙ ap (λ b. tallyFrom vs (b .from) (b .to) 0 (vertexCount vs)) (a .arc-between .ensures)
 
 pub tally-edges-spec : {M : Type 1} → statement M
 tally-edges-spec =
@@ -182,5 +201,6 @@ tally-edges-spec =
     tally-near-requires
     same-length
     returns
-    search-edges-requires
+    arc-between-requires
+    tally-arc-requires
     returns-2)
