@@ -15,7 +15,7 @@ ghost use Rattle.search.specs.Arc.{AcceptedArc};
 ghost use Rattle.search.specs.Walk.{testBy, NoneBefore};
 ghost use Rattle.cones.specs.Cones.{Idle, Complete, EarlierTell};
 use crate::sectors::wide;
-use polygon::border::coincident;
+use corridors::border::coincident;
 use polygon::vertices::end_of;
 use polygon::vertices::vertex_at;
 use search::arc::Arc;

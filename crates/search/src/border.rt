@@ -12,8 +12,9 @@ ghost use Rattle.answer.specs.Search.{firstFrom, countFrom};
 ghost use Rattle.sphere.specs.Point.{fine, Within};
 ghost use Rattle.polygon.specs.Accepted.{Gridded};
 ghost use Rattle.polygon.specs.Vertices.{vertexCount, startOf, endOf};
-ghost use Rattle.polygon.specs.Border.{isCoincident, isBorder, Marked};
+ghost use Rattle.polygon.specs.Border.{isCoincident, isBorder};
 ghost use Rattle.polygon.specs.Verdict.{isHeldBy, boundaryOf};
+ghost use Rattle.corridors.specs.Marked.{Marked};
 ghost use Rattle.search.specs.Arc.{AcceptedArc, Searchable};
 ghost use Rattle.search.specs.Spans.{runStart};
 ghost use Rattle.search.specs.Walk.{tallyFrom, stopsAt};
@@ -25,7 +26,7 @@ use crate::spans::next_span;
 use crate::walk::Tally;
 use crate::walk::walk_spans;
 use answer::Found;
-use polygon::border::mark_edges;
+use corridors::border::mark_edges;
 use polygon::vertices::end_of;
 use polygon::vertices::vertex_at;
 use sphere::direction::same_direction;
@@ -102,7 +103,7 @@ fn next_held(vertices: &[i32], boxes: &[i32], arc: Arc, from: usize) -> usize
     )
 }
 
-// Edge j joins the directions of c and d. As polygon::border::coincident, which the compiler takes into the walk over
+// Edge j joins the directions of c and d. As corridors::border::coincident, which the compiler takes into the walk over
 // an index only while it has no third caller.
 fn joins(vertices: &[i32], c: Point, d: Point, j: usize) -> bool
     requires { ⌜ Gridded fine (now vertices) × (j < vertexCount (now vertices)) × Within fine c × Within fine d ⌝ }

@@ -16,11 +16,12 @@ use Rattle.answer.specs.Search.{firstFrom, countFrom}
 use Rattle.answer.proofs.Laws.Blocks.{first-pass, count-append, count-none}
 use Rattle.answer.proofs.Laws.First.{none-first}
 use Rattle.polygon.specs.Vertices.{vertexCount, startOf, endOf}
-use Rattle.polygon.specs.Border.{joinsOf, isCoincident, coincidentOf, isBorder, Marked}
+use Rattle.polygon.specs.Border.{joinsOf, isCoincident, coincidentOf, isBorder}
 use Rattle.polygon.specs.Verdict.{isHeldBy, isOnBorder}
 use Rattle.polygon.proofs.Laws.Checks.{OffCircles}
 use Rattle.polygon.proofs.Laws.Directions.{joined-test, joins-test, border-same}
 use Rattle.polygon.proofs.Laws.Joined.{joins-self}
+use Rattle.corridors.specs.Marked.{Marked}
 use Rattle.search.specs.Walk.{NoneBefore}
 use Rattle.search.specs.Border.{Foremost, ClassMarked, NextHeld, Settled}
 use Rattle.search.proofs.Laws.Coincident.{joins-held}

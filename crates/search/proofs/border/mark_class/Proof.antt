@@ -8,10 +8,11 @@ use native.Mathlib.Omega.{arith}
 use lib.IntN.{ℤ}
 use Rattle.answer.specs.Search.{countFrom}
 use Rattle.polygon.specs.Vertices.{vertexCount, startOf, endOf}
-use Rattle.polygon.specs.Border.{isCoincident, Marked}
+use Rattle.polygon.specs.Border.{isCoincident}
 use Rattle.polygon.proofs.Laws.Checks.{gridded-fine}
 use Rattle.polygon.proofs.Laws.Edges.{end-within}
-use Rattle.polygon.proofs.Laws.Marked.{marked-none, marked-append}
+use Rattle.corridors.specs.Marked.{Marked}
+use Rattle.corridors.proofs.Laws.Marked.{marked-none, marked-append}
 use Rattle.search.specs.declared.spans.Span.{Span}
 use Rattle.search.specs.Boxes.{runCount}
 use Rattle.search.specs.Scan.{isOneSided}

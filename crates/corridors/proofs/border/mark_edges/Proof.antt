@@ -8,12 +8,13 @@ use borrow.Author.Needs.{needs}
 use lib.IntN.{ℤ}
 use Rattle.sphere.specs.declared.point.Point.{Point}
 use Rattle.answer.specs.Search.{countFrom}
-use Rattle.polygon.specs.Border.{isCoincident, Marked}
 use Rattle.answer.proofs.Laws.Blocks.{count-bound}
-use Rattle.polygon.proofs.Laws.Off.{joined-more, joined-rest}
-use Rattle.polygon.proofs.Laws.Marked.{marked-none, marked-one, marked-append}
-use Rattle.polygon.proofs.border.mark_edges.Statement.{statement}
-use Rattle.polygon.proofs.border.mark_edges.Tie as tie
+use Rattle.polygon.specs.Border.{isCoincident}
+use Rattle.corridors.specs.Marked.{Marked}
+use Rattle.corridors.proofs.Laws.Off.{joined-more, joined-rest}
+use Rattle.corridors.proofs.Laws.Marked.{marked-none, marked-one, marked-append}
+use Rattle.corridors.proofs.border.mark_edges.Statement.{statement}
+use Rattle.corridors.proofs.border.mark_edges.Tie as tie
 
 record Counted (vs : List ℤ) (C D : Point) (from to : ℕ) (marks now : List ℕ) (count j : ℕ) : Type 0 where
   after : from ≤ j

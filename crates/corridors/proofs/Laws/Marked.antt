@@ -8,7 +8,7 @@ use native.Mathlib.Omega.{arith}
 use borrow.Author.Tests.{ltb-true, ltb-false}
 use lib.Dec.{ltb}
 use lib.ListN.{length, getD}
-use Rattle.polygon.specs.Border.{MarkedAt, Marked}
+use Rattle.corridors.specs.Marked.{MarkedAt, Marked}
 
 module _ {test : ℕ → Bool} where
   pub marked-none : {i to : ℕ} {marks : List ℕ} → ((j : ℕ) → i ≤ j → j < to → test j ≡ false) →

@@ -7,9 +7,9 @@ use mir.Syntax.{w64}
 use Rattle.integers.specs.Sign.{signOf, isZero}
 use Rattle.integers.proofs.Compare.{zero-test}
 use Rattle.sphere.specs.Plane.{planeOf}
-use Rattle.polygon.specs.Border.{numberOf}
-use Rattle.polygon.proofs.border.is_off.Statement.{statement}
-use Rattle.polygon.proofs.border.is_off.Tie as tie
+use Rattle.corridors.specs.Marked.{numberOf}
+use Rattle.corridors.proofs.border.is_off.Statement.{statement}
+use Rattle.corridors.proofs.border.is_off.Tie as tie
 
 sum-of-requires : tie.Need-sum-of-requires
 sum-of-requires c κs = search needs

@@ -11,18 +11,18 @@ use borrow.Author.Tests.{ltb-true, ltb-false}
 use lib.Dec.{eqb, ltb}
 use lib.IntN.{ℤ, pos, _+ℤ_}
 use Rattle.integers.specs.Sign.{signOf, isZero, isPositive}
+use Rattle.integers.proofs.Table.{and-l}
 use Rattle.sphere.specs.declared.point.Point.{Point}
 use Rattle.sphere.specs.Point.{isNull, origin}
 use Rattle.sphere.specs.Orientation.{crossOf, dotOf}
 use Rattle.sphere.specs.Direction.{isSameDirection}
 use Rattle.sphere.proofs.Laws.Orientation.{null→origin}
-use Rattle.integers.proofs.Table.{and-l}
-use Rattle.polygon.specs.Vertices.{vertexCount, vertexAt, startOf, endOf}
-use Rattle.polygon.specs.Border.{joinsOf, isCoincident, numberOf, sumOf, isOff, OffBetween, Elsewhere}
-use Rattle.polygon.specs.Border.{Unjoined, NextJoined}
 use Rattle.answer.specs.Search.{countFrom}
 use Rattle.answer.proofs.Laws.Blocks.{count-append, count-none}
+use Rattle.polygon.specs.Vertices.{vertexCount, vertexAt, startOf, endOf}
+use Rattle.polygon.specs.Border.{joinsOf, isCoincident}
 use Rattle.polygon.proofs.Laws.Edges.{next-start}
+use Rattle.corridors.specs.Marked.{numberOf, sumOf, isOff, OffBetween, Elsewhere, Unjoined, NextJoined}
 
 -- Where the cross product is null, so is each number by which it is asked.
 none-off : (s t u : Bool) →

@@ -4,8 +4,8 @@ use native.Mathlib.Omega.{arith}
 use borrow.Author.Needs.{needs}
 use lib.ListN.{length-set}
 use lib.Seq.{getD-set-same, getD-set-other}
-use Rattle.polygon.proofs.border.put_mark.Statement.{statement}
-use Rattle.polygon.proofs.border.put_mark.Tie as tie
+use Rattle.corridors.proofs.border.put_mark.Statement.{statement}
+use Rattle.corridors.proofs.border.put_mark.Tie as tie
 
 slice-write-marks : tie.Need-slice-write-marks
 slice-write-marks c = search needs

@@ -3,8 +3,8 @@ use mir.Syntax.{w64}
 use mir.ValLaws.{toZ-ofZ}
 use borrow.Author.Tests.{eq-eqb, ne-eqb}
 use Rattle.sphere.proofs.Numbers.{words-of}
-use Rattle.polygon.proofs.border.number_of.Statement.{statement}
-use Rattle.polygon.proofs.border.number_of.Tie as tie
+use Rattle.corridors.proofs.border.number_of.Statement.{statement}
+use Rattle.corridors.proofs.border.number_of.Tie as tie
 
 returns : tie.Need-returns
 returns c = rw (eq-eqb _ 0 (c .before .if1 .taken)) (toZ-ofZ w64 _ (words-of (c .before .before .args .n) (c .struct-told .given) .at-x))

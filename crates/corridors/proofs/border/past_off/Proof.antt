@@ -6,11 +6,11 @@ use borrow.Author.Tests.{not-false}
 use Prim.Native.Nat.{ℕ, _+_, _-_, _≤_, _<_}
 use Rattle.sphere.specs.Direction.{isSameDirection}
 use Rattle.answer.proofs.Laws.Chain.{both-true}
 use Rattle.polygon.specs.Vertices.{vertexCount, vertexAt}
-use Rattle.polygon.specs.Border.{isOff, OffBetween}
-use Rattle.polygon.proofs.Laws.Off.{off-not-same, off-start, off-step}
-use Rattle.polygon.proofs.border.past_off.Statement.{statement}
-use Rattle.polygon.proofs.border.past_off.Tie as tie
+use Rattle.corridors.specs.Marked.{isOff, OffBetween}
+use Rattle.corridors.proofs.Laws.Off.{off-not-same, off-start, off-step}
+use Rattle.corridors.proofs.border.past_off.Statement.{statement}
+use Rattle.corridors.proofs.border.past_off.Tie as tie
 
 abbrev Inv-loop : tie.InvT-loop
 Inv-loop vertices axis c i to at₀ at = OffBetween vertices c i at × (at ≤ to)

@@ -2,9 +2,9 @@
 use Prim.Native.Nat.{_-_}
 use native.Mathlib.Omega.{arith}
 use borrow.Author.Needs.{needs}
-use Rattle.polygon.proofs.Laws.Off.{off-elsewhere, elsewhere-none}
-use Rattle.polygon.proofs.border.next_edge.Statement.{statement}
-use Rattle.polygon.proofs.border.next_edge.Tie as tie
+use Rattle.corridors.proofs.Laws.Off.{off-elsewhere, elsewhere-none}
+use Rattle.corridors.proofs.border.next_edge.Statement.{statement}
+use Rattle.corridors.proofs.border.next_edge.Tie as tie
 
 next-toward-requires : tie.Need-next-toward-requires
 next-toward-requires c κs = let p = c .pre in (p .0, p .1, omega (arith, p .2), p .3)

@@ -1,11 +1,11 @@
 -- `next_coincident` meets its contract: the edges from i on, before the one at hand, do not join the two directions.
 use Prim.Native.Nat.{ℕ, _-_, _≤_, _<_}
 use native.Mathlib.Omega.{arith}
-use Rattle.polygon.specs.Border.{Unjoined}
 use Rattle.polygon.specs.Vertices.{vertexCount}
-use Rattle.polygon.proofs.Laws.Off.{unjoined-start, unjoined-append, unjoined-step, counted-one, counted-none}
-use Rattle.polygon.proofs.border.next_coincident.Statement.{statement}
-use Rattle.polygon.proofs.border.next_coincident.Tie as tie
+use Rattle.corridors.specs.Marked.{Unjoined}
+use Rattle.corridors.proofs.Laws.Off.{unjoined-start, unjoined-append, unjoined-step, counted-one, counted-none}
+use Rattle.corridors.proofs.border.next_coincident.Statement.{statement}
+use Rattle.corridors.proofs.border.next_coincident.Tie as tie
 
 abbrev Inv-loop : tie.InvT-loop
 Inv-loop vertices c d i to j₀ turn₀ j turn = Unjoined vertices c d i j × (j ≤ to) × (turn ≤ j)

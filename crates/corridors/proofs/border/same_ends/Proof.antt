@@ -1,8 +1,8 @@
 -- `same_ends` meets its contract.
 use borrow.Author.Needs.{needs}
 use mathlib.Core.Path.{sym, _∙_}
-use Rattle.polygon.proofs.border.same_ends.Statement.{statement}
-use Rattle.polygon.proofs.border.same_ends.Tie as tie
+use Rattle.corridors.proofs.border.same_ends.Statement.{statement}
+use Rattle.corridors.proofs.border.same_ends.Tie as tie
 
 same-direction-requires : tie.Need-same-direction-requires
 same-direction-requires c κs = search needs

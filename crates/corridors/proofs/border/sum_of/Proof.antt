@@ -6,8 +6,8 @@ use Rattle.sphere.specs.Point.{fine, Within}
 use Rattle.sphere.specs.Orientation.{crossOf}
 use Rattle.sphere.proofs.Numbers.{x-of, y-of, z-of}
 use Rattle.sphere.proofs.Vectors.{crossE, vecs}
-use Rattle.polygon.proofs.border.sum_of.Statement.{statement}
-use Rattle.polygon.proofs.border.sum_of.Tie as tie
+use Rattle.corridors.proofs.border.sum_of.Statement.{statement}
+use Rattle.corridors.proofs.border.sum_of.Tie as tie
 
 -- The two points, and the parts.
 module _ (s : tie.Start) where

@@ -1,10 +1,10 @@
 -- `next_by` meets its contract: an edge that joins the two directions ends in each of them.
 use mathlib.Core.Path.{sym, _∙_}
 use borrow.Author.Needs.{needs}
 use Rattle.polygon.specs.Vertices.{startOf, endOf}
 use Rattle.polygon.proofs.Laws.Joined.{joins-front}
-use Rattle.polygon.proofs.border.next_by.Statement.{statement}
-use Rattle.polygon.proofs.border.next_by.Tie as tie
+use Rattle.corridors.proofs.border.next_by.Statement.{statement}
+use Rattle.corridors.proofs.border.next_by.Tie as tie
 
 next-edge-requires : tie.Need-next-edge-requires
 next-edge-requires c κs = search needs

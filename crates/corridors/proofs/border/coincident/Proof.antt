@@ -4,11 +4,11 @@ use mathlib.Core.Bool.{Bool, _&&_}
 use native.Mathlib.Omega.{arith}
 use Rattle.sphere.specs.Point.{fine, Within}
 use Rattle.sphere.specs.Direction.{isSameDirection}
-use Rattle.polygon.specs.Border.{joinsOf}
 use Rattle.polygon.specs.Vertices.{startOf, endOf}
+use Rattle.polygon.specs.Border.{joinsOf}
 use Rattle.polygon.proofs.Laws.Edges.{end-within}
-use Rattle.polygon.proofs.border.coincident.Statement.{statement}
-use Rattle.polygon.proofs.border.coincident.Tie as tie
+use Rattle.corridors.proofs.border.coincident.Statement.{statement}
+use Rattle.corridors.proofs.border.coincident.Tie as tie
 
 vertex-at-requires : tie.Need-vertex-at-requires
 vertex-at-requires c κs = omega (arith, c .pre .1)
