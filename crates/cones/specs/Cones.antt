@@ -1,26 +1,18 @@
 -- Lists of edges that are complete for a query, or for all that are in a cone: for the code alone. Defined, in order:
--- Idle (an edge that a query does not notice); Covers, Complete (a list of edges); EarlierTell; Walked, Coming (what a
--- loop over a complete list has come to).
+-- Covers, Complete (a list of edges); EarlierTell; Walked, Coming (what a loop over a complete list has come to).
 use mathlib.Core.Path.{_≡_}
 use mathlib.Core.Bool.{true, false}
 use mathlib.Core.List.{List}
 use Prim.Native.Nat.{ℕ, suc, _≤_, _<_}
 use lib.IntN.{ℤ}
 use lib.ListN.{length, getD}
-use Rattle.integers.specs.Sign.{nought}
 use Rattle.sphere.specs.declared.point.Point.{Point}
-use Rattle.sphere.specs.Crossing.{crossingOf}
-use Rattle.polygon.specs.Vertices.{vertexCount, startOf, endOf}
+use Rattle.polygon.specs.Vertices.{startOf, endOf}
 use Rattle.polygon.specs.Border.{isCoincident, isBorder}
-use Rattle.polygon.specs.Verdict.{isHeldBy}
 use Rattle.search.specs.declared.walk.Tally.the-variants.{Crossed}
 use Rattle.search.specs.Walk.{tallyFrom}
+use Rattle.azimuths.specs.Sectors.{Idle}
 use Rattle.cones.specs.declared.told.Told.{Told}
-
--- The arc from X to P does not cross edge j, and P is not on it.
-pub record Idle (vs : List ℤ) (X P : Point) (j : ℕ) : Type 0 where
-  pub uncrossed : crossingOf X P (startOf vs j) (endOf vs j) ≡ nought
-  pub unheld : isHeldBy vs P j ≡ false
 
 -- Each edge before i is an entry of the list, from entry a on before entry b, in rising order, or I holds of it.
 pub data Covers (I : ℕ → Type 0) (l : List ℕ) (a : ℕ) : ℕ → ℕ → Type 0 where

@@ -12,15 +12,15 @@ use lib.ListN.{length, getD}
 use Rattle.sphere.specs.declared.point.Point.{Point}
 use Rattle.sphere.specs.Point.{origin}
 use Rattle.polygon.specs.Vertices.{vertexCount}
+use Rattle.azimuths.specs.Azimuth.{FrameAt}
+use Rattle.azimuths.specs.Sectors.{SectorsOf, MissedIn}
 use Rattle.cones.specs.declared.build.Index.{Index}
 use Rattle.cones.specs.declared.table.Cone.{Cone}
 use Rattle.cones.specs.declared.table.Row.{Row}
 use Rattle.cones.specs.declared.grow.Split.{Split}
 use Rattle.cones.specs.declared.grow.Split.the-variants.{Whole, Low}
-use Rattle.cones.specs.Azimuth.{FrameAt}
 use Rattle.cones.specs.Cones.{Complete}
 use Rattle.cones.specs.Lists.{Kept}
-use Rattle.cones.specs.Sectors.{SectorsOf, MissedIn}
 
 pub record RowOf (table : List ℕ) (k : ℕ) (row : Row) : Type 0 where
   pub lo : row .lo ≡ getD table (k * 4) 0

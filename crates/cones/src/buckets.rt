@@ -2,7 +2,7 @@
 // mark, raise, fill. All of it is a hint: what is proved is that it stays within the arrays.
 ghost use Prim.Native.Nat.{_*_, _≤_, _<_};
 ghost use lib.ListN.{length};
-use crate::sectors::wide;
+use azimuths::sectors::wide;
 
 // Behind the bucket in which a node begins, how many nodes there are up to it.
 fn mark(table: &[u16], nodes: usize, buckets: &mut [u16])

@@ -8,15 +8,15 @@ ghost use Rattle.answer.specs.declared.Check.the-variants.{Passed};
 ghost use Rattle.polygon.specs.Checks.{acceptCheck};
 ghost use Rattle.polygon.specs.Vertices.{vertexCount};
 ghost use Rattle.cones.specs.Table.{Indexed, Built, noIndex};
-use crate::azimuth::Frame;
-use crate::azimuth::frame_of;
 use crate::buckets::fill;
 use crate::grow::grow;
 use crate::grow::rest;
 use crate::lists::first_list;
-use crate::sectors::put_sectors;
 use crate::table::Cone;
 use crate::table::Size;
+use azimuths::azimuth::Frame;
+use azimuths::azimuth::frame_of;
+use azimuths::sectors::put_sectors;
 use sphere::point::Grid;
 use sphere::point::Point;
 

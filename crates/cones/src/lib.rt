@@ -2,14 +2,12 @@
 // direction about the reference point is a number, its azimuth, and a cone is a range of them. A query in no cone goes by
 // the boxes; so which cones there are, and which is tried, are hints, and any choice is right. What is said of a query is
 // what a search by the boxes says.
-mod azimuth;
 mod buckets;
 pub mod build;
 mod grow;
 mod lists;
 mod near;
 pub mod query;
-mod sectors;
 mod sure;
 mod table;
 mod told;

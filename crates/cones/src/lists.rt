@@ -2,12 +2,12 @@
 ghost use mathlib.Core.Path.{_≡_};
 ghost use Prim.Native.Nat.{_+_, _*_, _-_, _≤_, _<_};
 ghost use lib.ListN.{length};
+ghost use Rattle.azimuths.specs.Sectors.{isMissed, MissedIn};
 ghost use Rattle.cones.specs.Cones.{Complete};
 ghost use Rattle.cones.specs.Lists.{Entries, Filtered, Sifted};
-ghost use Rattle.cones.specs.Sectors.{isMissed, MissedIn};
-use crate::sectors::is_missed;
-use crate::sectors::is_passed;
-use crate::sectors::wide;
+use azimuths::sectors::is_missed;
+use azimuths::sectors::is_passed;
+use azimuths::sectors::wide;
 
 // Where what is kept ends; and a hint, how many entries span the azimuth at hand and the next.
 pub struct Tail {

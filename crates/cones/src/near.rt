@@ -3,10 +3,10 @@
 ghost use mathlib.Core.Path.{_≡_};
 ghost use Prim.Native.Nat.{_*_, _-_, _≤_, _<_};
 ghost use lib.ListN.{length};
+ghost use Rattle.azimuths.specs.Sectors.{isMissedAt};
 ghost use Rattle.cones.specs.Lists.{Entries, Gathered};
-ghost use Rattle.cones.specs.Sectors.{isMissedAt};
-use crate::sectors::is_missed_at;
-use crate::sectors::wide;
+use azimuths::sectors::is_missed_at;
+use azimuths::sectors::wide;
 
 // The entries before `to` whose edges span azimuth k, of n edges, from entry 0 on; the end of them.
 pub fn gather(

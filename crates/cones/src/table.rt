@@ -4,8 +4,8 @@ ghost use mathlib.Core.Path.{_≡_};
 ghost use Prim.Native.Nat.{_+_, _*_, _-_, _≤_, _<_};
 ghost use lib.ListN.{length};
 ghost use Rattle.cones.specs.Table.{RowOf, Indexed, Room, Roomy, Copied, ConeOn};
-use crate::sectors::put_number;
-use crate::sectors::wide;
+use azimuths::sectors::put_number;
+use azimuths::sectors::wide;
 
 // A node: the azimuths from lo to last, and where its list stands.
 pub struct Row {

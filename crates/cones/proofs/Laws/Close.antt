@@ -24,9 +24,9 @@ use Rattle.search.specs.Arc.{arcOf, AcceptedArc}
 use Rattle.search.specs.Walk.{tallyFrom}
 use Rattle.search.proofs.Laws.Arc.{arc-sound}
 use Rattle.search.proofs.Laws.Tally.{test-way}
-use Rattle.cones.specs.Cones.{Idle, Covers, none, pass, keep, Complete}
+use Rattle.azimuths.specs.Sectors.{Idle, isMissedAt, MissedIn, isInside, turnsLeft, wayBy, Telling}
+use Rattle.cones.specs.Cones.{Covers, none, pass, keep, Complete}
 use Rattle.cones.specs.Lists.{Gathered}
-use Rattle.cones.specs.Sectors.{isMissedAt, MissedIn, isInside, turnsLeft, wayBy, Telling}
 use Rattle.cones.proofs.Laws.Covers.{kept-covers}
 
 covers-below : {I : ℕ → Type 0} {l : List ℕ} {a n i b : ℕ} → i ≤ n → Covers I l a i b →

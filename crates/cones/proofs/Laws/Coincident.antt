@@ -16,7 +16,8 @@ use Rattle.polygon.specs.Border.{isCoincident}
 use Rattle.polygon.specs.Verdict.{isHeldBy}
 use Rattle.polygon.proofs.Laws.Checks.{OffCircles}
 use Rattle.search.proofs.Laws.Coincident.{not-coincident}
-use Rattle.cones.specs.Cones.{Idle, Covers, none, pass, keep}
+use Rattle.azimuths.specs.Sectors.{Idle}
+use Rattle.cones.specs.Cones.{Covers, none, pass, keep}
 use Rattle.cones.proofs.Laws.Covers.{covers-least}
 
 pub list-coincident : (vs : List ℤ) (X P : Point) → OffCircles vs X → (o : ℕ) → o < vertexCount vs →

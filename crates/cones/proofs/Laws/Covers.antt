@@ -22,7 +22,8 @@ use Rattle.search.specs.declared.walk.Tally.the-variants.{Held, Crossed}
 use Rattle.search.specs.Walk.{tallyFrom}
 use Rattle.search.proofs.Laws.Tally.{Tallied, tallied-start, tallied-block, tallied-none, tallied-held, tallied-end}
 use Rattle.search.proofs.Laws.Tally.{crossed-parts, tally-all, test-way, tallied-few, sum-fits}
-use Rattle.cones.specs.Cones.{Idle, Covers, none, pass, keep, Walked}
+use Rattle.azimuths.specs.Sectors.{Idle}
+use Rattle.cones.specs.Cones.{Covers, none, pass, keep, Walked}
 use Rattle.cones.specs.Lists.{Entries, Kept, begin, drop, copy}
 
 -- ---- a complete list

@@ -5,9 +5,9 @@ use Prim.Native.Nat.{ℕ, _≤_}
 use native.Mathlib.Omega.{arith}
 use lib.IntN.{ℤ}
 use Rattle.sphere.specs.declared.point.Point.{Point}
+use Rattle.azimuths.specs.Sectors.{MissedIn}
 use Rattle.cones.specs.declared.table.Row.{Row}
 use Rattle.cones.specs.Cones.{Complete}
-use Rattle.cones.specs.Sectors.{MissedIn}
 use Rattle.cones.specs.Table.{RowOf, Node, Indexed, IndexOn, noIndex}
 use Rattle.cones.proofs.Laws.Covers.{covers-map}
 

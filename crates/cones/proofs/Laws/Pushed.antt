@@ -8,8 +8,8 @@ use native.Mathlib.Nat.{eq-or-lt-of-le}
 use native.Mathlib.Omega.{arith}
 use lib.ListN.{length, getD, set, length-set}
 use lib.Seq.{getD-set-same, getD-set-other}
+use Rattle.azimuths.specs.Sectors.{MissedIn}
 use Rattle.cones.specs.Cones.{Covers}
-use Rattle.cones.specs.Sectors.{MissedIn}
 use Rattle.cones.specs.Table.{Node, Indexed, Room, Copied}
 use Rattle.cones.proofs.Laws.Covers.{covers-same, kept-covers}
 

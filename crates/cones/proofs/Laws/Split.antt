@@ -5,14 +5,14 @@ use mathlib.Core.List.{List}
 use Prim.Native.Nat.{ℕ, _+_, _≤_, _<_}
 use native.Mathlib.Omega.{arith}
 use lib.ListN.{length}
+use Rattle.azimuths.specs.Sectors.{isMissed, MissedIn}
+use Rattle.azimuths.proofs.Laws.Ranges.{missed-range}
 use Rattle.cones.specs.declared.lists.Part.{Part}
 use Rattle.cones.specs.declared.table.Cone.{Cone}
 use Rattle.cones.specs.Cones.{Complete}
 use Rattle.cones.specs.Lists.{Framed, Sifted}
-use Rattle.cones.specs.Sectors.{isMissed, MissedIn}
 use Rattle.cones.specs.Table.{ConeOn, Halvable, HalfOf, LowerOf}
 use Rattle.cones.proofs.Laws.Covers.{covers-same, kept-covers}
-use Rattle.cones.proofs.Laws.Ranges.{missed-range}
 
 pub room-after : (l m : List ℕ) {cone : Cone} → length m ≡ length l → Halvable cone (length l) →
     Halvable cone (length m)

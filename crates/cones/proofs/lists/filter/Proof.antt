@@ -10,8 +10,8 @@ use borrow.Author.Needs.{needs}
 use borrow.Author.Tests.{not-false}
 use lib.ListN.{length, getD, set, length-set}
 use lib.Seq.{getD-set-same, getD-set-other}
+use Rattle.azimuths.specs.Sectors.{isMissed}
 use Rattle.cones.specs.Lists.{Kept, begin, drop, copy, Framed}
-use Rattle.cones.specs.Sectors.{isMissed}
 use Rattle.cones.proofs.Laws.Covers.{kept-same}
 use Rattle.cones.proofs.lists.filter.Statement.{statement}
 use Rattle.cones.proofs.lists.filter.Tie as tie

@@ -9,10 +9,10 @@ use borrow.Author.Needs.{needs}
 use borrow.Author.Tests.{not-false}
 use lib.ListN.{length, set, length-set}
 use lib.Seq.{getD-set-same, getD-set-other}
+use Rattle.azimuths.specs.Sectors.{MissedIn}
+use Rattle.azimuths.proofs.Laws.Ranges.{missed-range}
 use Rattle.cones.specs.Cones.{Covers, none, pass, keep}
-use Rattle.cones.specs.Sectors.{MissedIn}
 use Rattle.cones.proofs.Laws.Covers.{covers-same}
-use Rattle.cones.proofs.Laws.Ranges.{missed-range}
 use Rattle.cones.proofs.lists.first_list.Statement.{statement}
 use Rattle.cones.proofs.lists.first_list.Tie as tie
 

@@ -6,7 +6,7 @@ use native.Mathlib.Omega.{arith}
 use borrow.Author.Needs.{needs}
 use borrow.Author.Tests.{not-false}
 use lib.ListN.{length, getD}
-use Rattle.cones.specs.Sectors.{isMissedAt}
+use Rattle.azimuths.specs.Sectors.{isMissedAt}
 use Rattle.cones.proofs.Laws.Near.{Gathering, gather-start, gather-drop, gather-copy, gather-end}
 use Rattle.cones.proofs.near.gather.Statement.{statement}
 use Rattle.cones.proofs.near.gather.Tie as tie

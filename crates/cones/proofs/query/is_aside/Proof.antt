@@ -5,7 +5,7 @@ use lib.Dec.{eqb}
 use lib.IntN.{ℤ}
 use mir.Syntax.{w64}
 use mir.Val.{ofZ}
-use Rattle.cones.specs.Azimuth.{AsideIf}
+use Rattle.azimuths.specs.Azimuth.{AsideIf}
 use Rattle.cones.proofs.query.is_aside.Statement.{statement}
 use Rattle.cones.proofs.query.is_aside.Tie as tie
 

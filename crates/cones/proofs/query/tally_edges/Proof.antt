@@ -22,12 +22,12 @@ use Rattle.polygon.proofs.Laws.Checks.{accept-passed, reference-accepted}
 use Rattle.search.specs.Arc.{arcOf}
 use Rattle.search.specs.Walk.{tallyFrom}
 use Rattle.search.proofs.Laws.Arc.{arc-searchable}
-use Rattle.cones.specs.Azimuth.{seen, azimuthBy, azimuthOf, AsideIf, Aside}
+use Rattle.azimuths.specs.Azimuth.{seen, azimuthBy, azimuthOf, AsideIf, Aside}
+use Rattle.azimuths.proofs.Laws.Azimuth.{azimuth-below}
+use Rattle.azimuths.proofs.Laws.SectorsTo.{dot-seen}
+use Rattle.azimuths.proofs.Laws.Sectors.{telling}
 use Rattle.cones.specs.Table.{Node}
-use Rattle.cones.proofs.Laws.Azimuth.{azimuth-below}
 use Rattle.cones.proofs.Laws.Index.{row-complete}
-use Rattle.cones.proofs.Laws.SectorsTo.{dot-seen}
-use Rattle.cones.proofs.Laws.Sectors.{telling}
 use Rattle.cones.proofs.query.tally_edges.Statement.{statement}
 use Rattle.cones.proofs.query.tally_edges.Tie as tie
 

@@ -22,8 +22,8 @@ use Rattle.polygon.proofs.Laws.Checks.{accept-passed}
 use Rattle.polygon.proofs.Laws.Edges.{ends-within}
 use Rattle.search.specs.declared.walk.Tally.the-variants.{Crossed}
 use Rattle.search.specs.Walk.{tallyFrom}
-use Rattle.cones.specs.Cones.{Idle, Complete, Walked, Coming}
-use Rattle.cones.specs.Sectors.{wayBy, Telling}
+use Rattle.azimuths.specs.Sectors.{Idle, wayBy, Telling}
+use Rattle.cones.specs.Cones.{Complete, Walked, Coming}
 use Rattle.cones.proofs.Laws.Covers.{AtEntry, covers-at, Added, walk-add}
 use Rattle.cones.proofs.Laws.Close.{told-way}
 use Rattle.cones.proofs.told.tell.Statement.{statement}

@@ -6,7 +6,8 @@ use Rattle.polygon.specs.Verdict.{isOnBorder, wayOf}
 use Rattle.polygon.proofs.Laws.Checks.{accept-passed}
 use Rattle.search.specs.Arc.{arcOf}
 use Rattle.search.specs.Walk.{testBy, NoneBefore}
-use Rattle.cones.specs.Cones.{Idle, Complete}
+use Rattle.azimuths.specs.Sectors.{Idle}
+use Rattle.cones.specs.Cones.{Complete}
 use Rattle.cones.proofs.Laws.Close.{arc-accepted}
 use Rattle.cones.proofs.told.test_unsure.Statement.{statement}
 use Rattle.cones.proofs.told.test_unsure.Tie as tie

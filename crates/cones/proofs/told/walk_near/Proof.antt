@@ -16,7 +16,8 @@ use Rattle.polygon.proofs.Laws.Checks.{accept-passed}
 use Rattle.search.specs.declared.walk.Tally.the-variants.{Held, Crossed}
 use Rattle.search.specs.Walk.{tallyFrom, NoneBefore}
 use Rattle.search.proofs.Laws.Tally.{test-held, test-way, none-start, none-before}
-use Rattle.cones.specs.Cones.{Idle, Covers, Walked, Coming}
+use Rattle.azimuths.specs.Sectors.{Idle}
+use Rattle.cones.specs.Cones.{Covers, Walked, Coming}
 use Rattle.cones.proofs.Laws.Covers.{AtEntry, covers-at, tallied-of, walk-start, walk-held, Added, walk-add}
 use Rattle.cones.proofs.told.walk_near.Statement.{statement}
 use Rattle.cones.proofs.told.walk_near.Tie as tie

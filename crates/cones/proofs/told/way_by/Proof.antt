@@ -3,7 +3,7 @@ use mathlib.Core.Path.{_≡_, refl, sym}
 use mathlib.Core.Bool.{Bool, true, false, Bool·beq, true≢false}
 use lib.IntN.{pos, negsuc}
 use Rattle.integers.specs.Sign.{unitOf}
-use Rattle.cones.specs.Sectors.{wayBy}
+use Rattle.azimuths.specs.Sectors.{wayBy}
 use Rattle.cones.proofs.told.way_by.Statement.{statement}
 use Rattle.cones.proofs.told.way_by.Tie as tie
 
