@@ -17,6 +17,8 @@ use azimuths::azimuth::azimuth_by;
 use azimuths::sectors::wide;
 use search::arc::arc_between;
 use search::border::tally_arc;
+use search::looked::asks_boxes;
+use search::walk::Mode;
 use search::walk::Tally;
 use sphere::orientation::dot;
 use sphere::point::Grid;
@@ -87,6 +89,7 @@ pub fn tally_edges(
     index: Index,
     known: Point,
     query: Point,
+    mode: Mode,
 ) -> Tally
     requires { ⌜ (acceptCheck (limitOf grid) (now vertices) known ≡ Passed) × Within (limitOf grid) query
         × Boxed (now vertices) (now boxes) ⌝ }
@@ -117,6 +120,6 @@ pub fn tally_edges(
             );
         }
     }
-    let arc = arc_between(grid, known, query, true);
+    let arc = arc_between(grid, known, query, asks_boxes(mode));
     tally_arc(vertices, boxes, arc)
 }

@@ -70,5 +70,6 @@ pub fn judge_indexed(
         index,
         known,
         query,
+        mode,
     ))
 }

@@ -4,7 +4,7 @@
 pub mod arc;
 pub mod border;
 pub mod boxes;
-mod looked;
+pub mod looked;
 mod scan;
 mod spans;
 pub mod walk;

@@ -61,7 +61,7 @@ pub(crate) fn is_counted(mode: Mode) -> bool
     }
 }
 
-pub(crate) fn asks_boxes(mode: Mode) -> bool
+pub fn asks_boxes(mode: Mode) -> bool
     ensures { λ r. ⌜ r ≡ asksBoxes mode ⌝ }
 {
     match mode {

@@ -26,7 +26,7 @@ module _ (c : tie.After-choose3) where
   to-below = rw (c .before .choose2 .ensures) (chosen-below (start .args .left) (start .pre .1) (start .pre .0))
 
   extra-below : c .choose3 .result < 2
-  extra-below = rw (c .choose3 .ensures) (chosen-below (start .args .left) {a = 1} {b = 0} (omega arith) (omega arith))
+  extra-below = rw (c .choose3 .ensures) (chosen-below (start .args .left) (omega arith) (omega arith))
 
 choose-requires : tie.Need-choose-requires
 choose-requires c κs = search needs
@@ -44,7 +44,10 @@ gap-requires : tie.Need-gap-requires
 gap-requires c κs = (from-below c, omega arith)
 
 gap-requires-2 : tie.Need-gap-requires-2
-gap-requires-2 c κs = (to-below (c .before), from-below (c .before))
+gap-requires-2 c κs =
+    let from = from-below (c .before) in
+    let to = to-below (c .before) in
+    (omega (arith, from, to), omega (arith, from, to))
 
 add-t9 : tie.Need-add-t9
 add-t9 c = search needs

@@ -164,19 +164,22 @@ same-length c = search needs
 returns : tie.Need-returns
 returns c = search needs
 
+asks-boxes-requires : tie.Need-asks-boxes-requires
+asks-boxes-requires c κs = search needs
+
 -- Where the boxes are asked.
 abbrev asking : tie.After-arc-between → tie.Start
-asking c = c .before .before .before .before .before .before .before .before .before .before .before .before .before
+asking c = c .before .before .before .before .before .before .before .before .before .before .before .before .before .before
 
 arc-between-requires : tie.Need-arc-between-requires
 arc-between-requires c κs =
-    let s = c .before .before .before .before .before .before .before .before .before .before .before .before in
+    let s = c .before .before .before .before .before .before .before .before .before .before .before .before .before in
     (accept-passed (s .pre .0 .0) .known, s .pre .0 .1)
 
 tally-arc-requires : tie.Need-tally-arc-requires
 tally-arc-requires c κs =
     let s = asking c in
-    arc-searchable (s .args .grid) (s .args .known) (s .args .query) true (s .pre .0 .0) (s .pre .0 .1) (s .pre .0 .2)
+    arc-searchable (s .args .grid) (s .args .known) (s .args .query) _ (s .pre .0 .0) (s .pre .0 .1) (s .pre .0 .2)
     (c .arc-between .ensures)
 
 returns-2 : tie.Need-returns-2
@@ -201,6 +204,7 @@ tally-edges-spec =
     tally-near-requires
     same-length
     returns
+    asks-boxes-requires
     arc-between-requires
     tally-arc-requires
     returns-2)
