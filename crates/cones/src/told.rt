@@ -110,7 +110,7 @@ fn test_unsure(
         (wayOf (now (vertices .entry)) known query i) ⌝ }
 {
     let arc = arc_between(grid, known, query, true);
-    test_listed(vertices, arc, list, 0, to, i)
+    test_listed(vertices, arc, list, to, i)
 }
 
 // What all edges say, by a list that is complete for the query.

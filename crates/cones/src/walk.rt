@@ -29,17 +29,17 @@ use sphere::plane::side_of;
 
 // Edge i is border, where all edges that join the same two directions are listed. Where one of them is before it, the
 // walk came past that one, so it is no border; nor is i, and nothing more is counted.
-fn is_border(vertices: &[i32], list: &[u16], from: usize, to: usize, i: usize) -> bool
+fn is_border(vertices: &[i32], list: &[u16], to: usize, i: usize) -> bool
     requires { ⌜ Listed (now vertices) × Gridded fine (now vertices) × (i < vertexCount (now vertices))
         × EarlierTell (now vertices) i ⌝ }
     requires { ⌜ Complete (λ j. isCoincident (now vertices) (startOf (now vertices) i) (endOf (now vertices) i) j
-        ≡ false) (vertexCount (now vertices)) (now list) from to ⌝ }
+        ≡ false) (vertexCount (now vertices)) (now list) 0 to ⌝ }
     ensures { λ r. ⌜ r ≡ isBorder (now (vertices .entry)) i ⌝ }
 {
     let a = vertex_at(vertices, i);
     let b = end_of(vertices, i);
     let mut count: u32 = 0;
-    for e in from..to {
+    for e in 0..to {
         let j = wide(list[e]);
         let more = coincident(vertices, a, b, j);
         if j < i {
@@ -53,42 +53,27 @@ fn is_border(vertices: &[i32], list: &[u16], from: usize, to: usize, i: usize) -
 }
 
 // Edge i holds the query and is border; by side, which has the sign of the orientation of its ends and the query.
-fn is_on_border(
-    vertices: &[i32],
-    arc: Arc,
-    list: &[u16],
-    from: usize,
-    to: usize,
-    i: usize,
-    side: i64,
-) -> bool
+fn is_on_border(vertices: &[i32], arc: Arc, list: &[u16], to: usize, i: usize, side: i64) -> bool
     requires { ⌜ AcceptedArc (now vertices) arc × (i < vertexCount (now vertices))
         × NoneBefore (now vertices) (arc .to) i ⌝ }
     requires { ⌜ Complete (Idle (now vertices) (arc .from) (arc .to)) (vertexCount (now vertices)) (now list)
-        from to ⌝ }
+        0 to ⌝ }
     requires { ⌜ signOf side ≡ signOf (orientationOf (startOf (now vertices) i) (endOf (now vertices) i) (arc .to)) ⌝ }
     ensures { λ r. ⌜ r ≡ isOnBorder (now (vertices .entry)) (arc .to) i ⌝ }
 {
     if on_edge_by(vertex_at(vertices, i), end_of(vertices, i), arc.to, side) {
-        return is_border(vertices, list, from, to, i);
+        return is_border(vertices, list, to, i);
     }
     false
 }
 
 // What edge i says of the query. Its own two orientations are worked out only where its ends are not strictly on one
 // side of the arc's plane.
-pub(crate) fn test_listed(
-    vertices: &[i32],
-    arc: Arc,
-    list: &[u16],
-    from: usize,
-    to: usize,
-    i: usize,
-) -> EdgeTest
+pub(crate) fn test_listed(vertices: &[i32], arc: Arc, list: &[u16], to: usize, i: usize) -> EdgeTest
     requires { ⌜ AcceptedArc (now vertices) arc × (i < vertexCount (now vertices))
         × NoneBefore (now vertices) (arc .to) i ⌝ }
     requires { ⌜ Complete (Idle (now vertices) (arc .from) (arc .to)) (vertexCount (now vertices)) (now list)
-        from to ⌝ }
+        0 to ⌝ }
     ensures { λ r. ⌜ r ≡ testBy (isOnBorder (now (vertices .entry)) (arc .to) i)
         (wayOf (now (vertices .entry)) (arc .from) (arc .to) i) ⌝ }
 {
@@ -103,7 +88,7 @@ pub(crate) fn test_listed(
     let grid = plane.grid;
     let edge = plane_through(grid, a, b);
     let side = side_of(edge, arc.to);
-    if is_on_border(vertices, arc, list, from, to, i, side) {
+    if is_on_border(vertices, arc, list, to, i, side) {
         return EdgeTest::OnBorder;
     }
     EdgeTest::Way(crossing_from(edge, arc.from, s1, s2, side))

@@ -18,16 +18,15 @@ use Rattle.cones.proofs.Laws.Coincident.{Counted, count-start, count-st
 use Rattle.cones.proofs.walk.is_border.Statement.{statement}
 use Rattle.cones.proofs.walk.is_border.Tie as tie
 
-record Counting (vs : List ℤ) (l : List ℕ) (from to i count e : ℕ) : Type 0 where
-  after : from ≤ e
+record Counting (vs : List ℤ) (l : List ℕ) (to i count e : ℕ) : Type 0 where
   before : e ≤ to
-  counted : Counted (isCoincident vs (startOf vs i) (endOf vs i)) l from e count
+  counted : Counted (isCoincident vs (startOf vs i) (endOf vs i)) l 0 e count
 
 abbrev Inv-loop : tie.InvT-loop
-Inv-loop vertices list from to i a b count₀ e₀ count e = Counting vertices list from to i count e
+Inv-loop vertices list to i a b count₀ e₀ count e = Counting vertices list to i count e
 
 abbrev μ-loop : tie.MeasureT-loop
-μ-loop vertices list from to i a b count₀ e₀ count e = to - e
+μ-loop vertices list to i a b count₀ e₀ count e = to - e
 
 vertex-at-requires : tie.Need-vertex-at-requires Inv-loop μ-loop
 vertex-at-requires c κs = omega (arith, c .before .pre .0 .2)
@@ -36,8 +35,7 @@ end-of-requires : tie.Need-end-of-requires Inv-loop μ-loop
 end-of-requires c κs = c .before .before .pre .0 .2
 
 loop-holds : tie.Need-loop-holds Inv-loop μ-loop
-loop-holds c =
-    record { after = omega arith; before = c .before .before .before .pre .1 .some; counted = count-start }
+loop-holds c = record { before = omega arith; counted = count-start }
 
 -- The entry at hand is an edge.
 module _ (c : tie.In-loop Inv-loop μ-loop) where
@@ -56,12 +54,12 @@ module _ (c : tie.In-loop Inv-loop μ-loop) where
   abbrev entry : ℕ
   entry = getD (start .args .list .now) (c .before .loop .e) 0
 
-  at : AtEntry (λ j. test j ≡ false) (start .args .list .now) (start .args .from) (vertexCount vs) (c .before .loop .e)
-  at = covers-at (start .pre .1 .covers) (c .before .loop .e) (c .before .loop .inv .after) (c .loop-test .taken)
+  at : AtEntry (λ j. test j ≡ false) (start .args .list .now) 0 (vertexCount vs) (c .before .loop .e)
+  at = covers-at (start .pre .1 .covers) (c .before .loop .e) (omega arith) (c .loop-test .taken)
 
-  next : Counted test (start .args .list .now) (start .args .from) (c .before .loop .e + 1)
+  next : Counted test (start .args .list .now) 0 (c .before .loop .e + 1)
       (c .before .loop .count + cond (test entry) 1 0)
-  next = count-step (c .before .loop .inv .after) (c .before .loop .inv .counted)
+  next = count-step (omega arith) (c .before .loop .inv .counted)
 
 mul-wide : tie.Need-mul-wide Inv-loop μ-loop
 mul-wide c = search needs
@@ -126,7 +124,6 @@ loop-again d =
     let c = d .before in
     let t = c .before .before .before in
     record {
-      after = omega (arith, t .before .loop .inv .after);
       before = omega (arith, t .loop-test .taken);
       counted = rw (more c) (next t);
     }
@@ -139,7 +136,7 @@ returns-2 c =
     let v = s .args .vertices .now in
     let last : s .args .to ≡ l .loop .e = omega (arith, c .loop-test .left, l .loop .inv .before) in
     let all = subst (λ b. Covers (λ j. isCoincident v (startOf v (s .args .i)) (endOf v (s .args .i)) j ≡ false)
-    (s .args .list .now) (s .args .from) (vertexCount v) b) last (s .pre .1 .covers) in
+    (s .args .list .now) 0 (vertexCount v) b) last (s .pre .1 .covers) in
     ap (λ (k : ℕ). eqb (k % 2) 1) (sym (l .loop .inv .counted .count (vertexCount v) all))
 
 pub is-border-spec : {M : Type 1} → statement M
