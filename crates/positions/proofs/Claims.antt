@@ -14,12 +14,13 @@ use Rattle.positions.specs.declared.grammar.Reading.{Reading}
 use Rattle.positions.specs.declared.grammar.Reading.the-variants.{Whole, Dead}
 use Rattle.positions.specs.Text.{nextOf, start, pickReading, read}
 use Rattle.positions.specs.Claims.{IsText, Longest, LongestBeginning}
-use Rattle.positions.proofs.Viable.{alive, whole, only-alive, finish, after, completes, start-reached}
+use Rattle.positions.proofs.Viable.{alive, whole, only-alive, finish, after, completes, completes-in-bytes}
+use Rattle.positions.proofs.Viable.{start-reached}
 
 abbrev ended : Bool → Bool → ℕ → Reading
 ended a b i = pickReading a Whole (pickReading b Whole (Dead i))
 
-readFrom : State → ℕ → List ℕ → Reading
+pub readFrom : State → ℕ → List ℕ → Reading
 readFrom s i [] = ended (eqb (s .at) 37) (eqb (s .at) 75) i
 readFrom s i (b ∷ bs) = pickReading (eqb (nextOf s b .at) 76) (Dead i) (readFrom (nextOf s b) (suc i) bs)
 
@@ -35,7 +36,7 @@ read-list l (b ∷ bs) s i e =
     ap (λ (k : ℕ). drop k l) (sym o) ∙ sym (drop-drop 1 i l) ∙ ap (λ (m : List ℕ). drop 1 m) e in
     rw (h, read-list l bs (nextOf s b) (suc i) r)
 
-all-read : (l : List ℕ) → read l start 0 (length l) ≡ readFrom start 0 l
+pub all-read : (l : List ℕ) → read l start 0 (length l) ≡ readFrom start 0 l
 all-read l = read-list l l start 0 refl
 
 no-whole : (i : ℕ) → Dead i ≡ Whole → ⊥
@@ -59,13 +60,13 @@ step-of : (x w : Bool) (i : ℕ) (r : Reading) → pickReading x (Dead i) r ≡ 
 step-of true w i r e f = absurd (no-whole i e)
 step-of false w i r e f = f e
 
-to-whole : (t : List ℕ) (s : State) (i : ℕ) → T (whole s t) → readFrom s i t ≡ Whole
+pub to-whole : (t : List ℕ) (s : State) (i : ℕ) → T (whole s t) → readFrom s i t ≡ Whole
 unfolding readFrom
 to-whole [] s i w = end-whole (eqb (s .at) 37) (eqb (s .at) 75) i w
 to-whole (b ∷ bs) s i w =
     step-to (eqb (nextOf s b .at) 76) (whole (nextOf s b) bs) i _ w (to-whole bs (nextOf s b) (suc i))
 
-of-whole : (t : List ℕ) (s : State) (i : ℕ) → readFrom s i t ≡ Whole → T (whole s t)
+pub of-whole : (t : List ℕ) (s : State) (i : ℕ) → readFrom s i t ≡ Whole → T (whole s t)
 unfolding readFrom
 of-whole [] s i e = whole-end (eqb (s .at) 37) (eqb (s .at) 75) i e
 of-whole (b ∷ bs) s i e =
@@ -135,6 +136,7 @@ longest-beginning text i e =
     record {
       inside = let h = d .inside in omega arith;
       rest = finish (after start p);
+      bytes = completes-in-bytes p start start-reached live;
       begins = all-read (p ++ finish (after start p)) ∙ to-whole _ start 0 (completes p start start-reached live);
       no-more = λ more h t.
           (rw is at (d .behind)) h

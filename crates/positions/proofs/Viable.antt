@@ -13,6 +13,7 @@ use Rattle.positions.proofs.TextLaws.{next-ok}
 use lib.Ieee.Fits.{and-i, and-l, and-r}
 use lib.ListN.{getD, drop}
 use Rattle.positions.specs.declared.grammar.State.{State}
+use Rattle.positions.specs.Claims.{areBytes}
 use Rattle.positions.specs.Text.{words, gaps, rows, classOf, pick, dead, ringNext, literal, nextOf, start}
 
 -- no byte is dead
@@ -55,7 +56,7 @@ finish s = cond (eqb (getD words (s .at) 0) 256) (ringRest (s .ring) ++ rest (dr
 ok-at : ℕ → ℕ → Bool
 unfolding finish words gaps rows classOf ringNext literal nextOf
 ok-at a r = let s : State =
-    record { at = a; ring = r } in not (eqb (getD words a 0) 256 || eqb r 0) || whole s (finish s)
+    record { at = a; ring = r } in not (eqb (getD words a 0) 256 || eqb r 0) || (whole s (finish s) && areBytes (finish s))
 
 row : ℕ → ℕ → Bool
 unfolding ok-at
@@ -103,10 +104,14 @@ implied : (a b : Bool) → T (not a || b) → T a → T b
 implied true b t u = t
 implied false b t u = absurd u
 
-pub finishes : (s : State) → Reached s → T (whole s (finish s))
+finishes-in-bytes : (s : State) → Reached s → T (whole s (finish s) && areBytes (finish s))
 unfolding ok-at
-finishes s h = implied (eqb (getD words (s .at) 0) 256 || eqb (s .ring) 0) (whole s (finish s))
+finishes-in-bytes s h =
+    implied (eqb (getD words (s .at) 0) 256 || eqb (s .ring) 0) (whole s (finish s) && areBytes (finish s))
     (in-row (s .at) 29 (in-table 76 all (s .at) (h .at)) (s .ring) (h .ring)) (h .outside)
+
+pub finishes : (s : State) → Reached s → T (whole s (finish s))
+finishes s h = and-l (whole s (finish s)) (areBytes (finish s)) (finishes-in-bytes s h)
 
 abbrev Outside : State → Type 0
 Outside s = T (eqb (getD words (s .at) 0) 256 || eqb (s .ring) 0)
@@ -161,6 +166,13 @@ completes (b ∷ p) s h t =
     let n = and-l (not (eqb (nextOf s b .at) 76)) (alive (nextOf s b) p) t in
     and-i (not (eqb (nextOf s b .at) 76)) (whole (nextOf s b) (p ++ finish (after (nextOf s b) p))) n
     (completes p (nextOf s b) (next-reached s b h n) (and-r (not (eqb (nextOf s b .at) 76)) (alive (nextOf s b) p) t))
+
+pub completes-in-bytes : (p : List ℕ) (s : State) → Reached s → T (alive s p) → T (areBytes (finish (after s p)))
+completes-in-bytes [] s h t = and-r (whole s (finish s)) (areBytes (finish s)) (finishes-in-bytes s h)
+completes-in-bytes (b ∷ p) s h t =
+    let n = and-l (not (eqb (nextOf s b .at) 76)) (alive (nextOf s b) p) t in
+    completes-in-bytes p (nextOf s b) (next-reached s b h n)
+    (and-r (not (eqb (nextOf s b .at) 76)) (alive (nextOf s b) p) t)
 
 pub start-reached : Reached start
 start-reached = record { at = omega arith; ring = omega arith; outside = plain 0 }
