@@ -68,7 +68,7 @@ $(SHARED): $(ARCHIVE) packaging/spargolutta.map include/spargolutta.h
 		-Wl,-z,defs -Wl,-z,text -Wl,--whole-archive $(ARCHIVE) -Wl,--no-whole-archive
 
 run: bin
-	@cd crates/zone_judge/data && ../../../$(PROGRAM) < ../stdin
+	@cd sample/octant && ../../$(PROGRAM) < queries
 
 clean:
 	rm -rf target

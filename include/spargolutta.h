@@ -192,7 +192,8 @@ enum spg_place_kind {
     SPG_PLACE_NONE = 0,         /* always 0 */
     SPG_PLACE_SIDE = 1,         /* the number of a side: 3, 13, 14, 16, 35 */
     SPG_PLACE_VERTEX = 2,       /* the number of a vertex: 11, 12 */
-    SPG_PLACE_BYTE = 3,         /* a byte of the sheet, the book or the text, from its start: 20 to 24, 30, 36 */
+    SPG_PLACE_BYTE = 3,         /* a byte of the sheet, the book or the text, from its start: 20 to 24, 30, 36; where a
+                                   sheet is written or imported there is none yet, and 22 and 23 have place 0 */
     SPG_PLACE_NEEDED = 4,       /* how many bytes the buffer needs: 25, 27 */
     SPG_PLACE_POSITION = 5,     /* the number of a position of the text: 31, 33 */
     SPG_PLACE_CALL = 6          /* as the call says: 0 */
@@ -519,7 +520,8 @@ SPG_USED static inline struct spg_answer spg_import(const uint8_t *text, size_t 
  * spg_point_number, spg_point_x, spg_point_y, spg_point_z: the grid numbers of a position on its own, in ten-millionths
  * of a degree. The number is 0, or 31 where the position is out of range; then the grid numbers are 0. Each of them is
  * within one of 2^20 times (cos lat cos lon, cos lat sin lon, sin lat), and multiples of 90 degrees are exact. An
- * importer's stops come by these calls, so that a stop drawn on a vertex of the zone is on the boundary.
+ * importer's stops come by these calls, so that a stop drawn on a vertex of the zone is
+ * that vertex, and is on the boundary if a border side meets there: one that only corridors meet is no boundary.
  */
 SPG_CONST uint32_t spg_point_number(int32_t longitude, int32_t latitude);
 SPG_CONST int32_t spg_point_x(int32_t longitude, int32_t latitude);

@@ -146,19 +146,21 @@ fn faults_nonblocking_pipes() {
     assert_eq!(errors, "");
 }
 
-/// Nothing is judged and nobody waits; a sheet's refusal is still printed.
+/// What is typed is judged, up to the second end of file (the first one hands on a line without its end); a sheet's
+/// refusal needs no input.
 #[test]
 fn faults_terminal() {
     let folder = Folder::new("terminal");
     let (mut main, mut other) = (-1, -1);
     let none = ptr::null();
     assert_eq!(unsafe { openpty(&mut main, &mut other, ptr::null_mut(), none, none) }, 0);
-    let (_main, terminal) = unsafe { (File::from_raw_fd(main), File::from_raw_fd(other)) };
+    let (mut main, terminal) = unsafe { (File::from_raw_fd(main), File::from_raw_fd(other)) };
     let line = "zone_judge: standard input is a terminal; queries of 12 bytes come from a file or a pipe\n";
-    for (sheet, refusal) in [(Some(octant().bytes()), ""), (None, "20 0 0\n")] {
+    main.write_all(&[points_bytes(&[[65, 66, 67]]), vec![4, 4]].concat()).expect("typed");
+    for (sheet, printed) in [(Some(octant().bytes()), "1 0 0\n"), (None, "20 0 0\n")] {
         let mut program = zone_judge(&folder, sheet.as_deref());
         let output = program.stdin(terminal.try_clone().expect("terminal")).output().expect("output");
-        assert_eq!(String::from_utf8_lossy(&output.stdout), refusal);
+        assert_eq!(String::from_utf8_lossy(&output.stdout), printed);
         assert_eq!(String::from_utf8_lossy(&output.stderr), line);
         assert_eq!(output.status.code(), Some(0));
     }

@@ -70,6 +70,22 @@ fn program_octant() {
     assert_eq!(printed, "1 0 0\n3 0 0\n2 0 1\n18 0 0\n");
 }
 
+/// The run that is stored with the program, whose places and counts have two digits: a comb of 23 teeth' sides in the
+/// plane z = 1,000, on which straight lines are great circles, a query that is cut, and document 01's run beside it.
+#[test]
+fn program_stored() {
+    let stored = |path: &str| fs::read(repository(path)).expect(path);
+    let tooth = |k: i32| [10 * k, if k % 2 == 0 { 0 } else { 40 }, 1000];
+    let mut comb = octant();
+    (comb.zone, comb.name, comb.known) = (8, b"Comb".to_vec(), [5, -7, 1000]);
+    comb.vertices = (0..24).map(tooth).chain([[240, -30, 1000], [-10, -30, 1000]]).collect();
+    let input = stored("crates/zone_judge/stdin");
+    assert_eq!(stored("crates/zone_judge/data/zone.sheet"), comb.bytes());
+    assert_eq!(stored("crates/zone_judge/stdout"), reference::program(Some(&comb.bytes()), &input).as_bytes());
+    assert_eq!(stored("sample/octant/zone.sheet"), octant().bytes());
+    assert_eq!(stored("sample/octant/queries"), points_bytes(&K2_K3_K5_K8));
+}
+
 /// Queries are on their sheet's grid: charts F1 to F3; a number past the coarse grid, and one past the fine grid.
 #[test]
 fn program_fine() {

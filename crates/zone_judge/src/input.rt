@@ -1,6 +1,6 @@
 // What the program reads: the sheet's file, and standard input in pieces of whole queries. What cannot be read is said on
 // standard error.
-// Here, in order: read_sheet, read_queries, fail, is_terminal.
+// Here, in order: read_sheet, read_queries, fail, warn_of_terminal.
 
 ghost use mathlib.Core.Path.{_≡_};
 ghost use Prim.Native.Nat.{_%_, _≤_};
@@ -67,14 +67,12 @@ pub(crate) fn fail() {
     os::fail(b"zone_judge: standard input");
 }
 
-// Whether standard input is a terminal, where nobody types queries of 12 bytes. It is said on standard error.
-pub(crate) fn is_terminal() -> bool {
-    if libc::isatty(STDIN_FILENO) == 0 {
-        return false;
+// Where standard input is a terminal, says on standard error what is waited for: few people type queries of 12 bytes.
+pub(crate) fn warn_of_terminal() {
+    if libc::isatty(STDIN_FILENO) != 0 {
+        io::write_all(
+            STDERR_FILENO,
+            b"zone_judge: standard input is a terminal; queries of 12 bytes come from a file or a pipe\n",
+        );
     }
-    io::write_all(
-        STDERR_FILENO,
-        b"zone_judge: standard input is a terminal; queries of 12 bytes come from a file or a pipe\n",
-    );
-    true
 }

@@ -4,6 +4,8 @@
 ghost use mathlib.Core.Path.{_≡_};
 ghost use Prim.Native.Nat.{_*_, _≤_, _<_};
 ghost use lib.ListN.{length};
+ghost use lib.Seq.{sets};
+ghost use Rattle.zone_judge.specs.Line.{linesOf};
 use crate::input;
 use crate::lines;
 use zone::feeds;
@@ -25,7 +27,9 @@ fn judge_whole(sheet: &[u8], queries: &[u8], size: usize, results: &mut [u8])
 // Puts a line for each of the first n results at the start of `out`. Where the lines end.
 fn put_lines(results: &[u8], n: usize, out: &mut [u8]) -> usize
     requires { ⌜ (n * 12 ≤ length (now results)) × (n * 63 ≤ length (now out)) ⌝ }
-    ensures { λ r. ⌜ r ≤ n * 63 ⌝ }
+    ensures put { λ _. ⌜ now (out .exit) ≡ sets (now (out .entry)) 0 (linesOf (now (results .entry)) n) ⌝ }
+    ensures end { λ r. ⌜ r ≡ length (linesOf (now (results .entry)) n) ⌝ }
+    ensures most { λ r. ⌜ r ≤ n * 63 ⌝ }
 {
     let mut at = 0;
     for i in 0..n {

@@ -1,8 +1,12 @@
 // Lines of output, put into a buffer: number, place and count, parted by single spaces.
-// Here, in order: digit_count, put_number, put_line, put_result, put_answer, fail, print, finish.
+// Here, in order: put_decimal, put_number, put_line, put_result, put_answer, fail, print, finish.
 
+ghost use mathlib.Core.Path.{_≡_};
 ghost use Prim.Native.Nat.{_+_, _≤_};
 ghost use lib.ListN.{length};
+ghost use lib.Seq.{sets};
+ghost use Rattle.answer.specs.Answer.{numberOf, placeOf, countOf};
+ghost use Rattle.zone_judge.specs.Line.{decimal, ended, lineOf, resultLine};
 use crate::calls;
 use answer::Answer;
 use big_endian::read;
@@ -12,31 +16,29 @@ use libc::STDOUT_FILENO;
 // The bytes of the longest line: three numbers of at most 20 digits, two spaces and the end of the line.
 pub(crate) const LONGEST: usize = 63;
 
-fn digit_count(n: u64) -> usize
-    ensures { λ r. ⌜ r ≤ 20 ⌝ }
+// Puts n's decimal digits from `at` on. Where they end.
+fn put_decimal(n: u64, out: &mut [u8], at: usize) -> usize
+    requires { ⌜ at + length (decimal n) ≤ length (now out) ⌝ }
+    ensures put { λ _. ⌜ now (out .exit) ≡ sets (now (out .entry)) at (decimal n) ⌝ }
+    ensures end { λ r. ⌜ r ≡ at + length (decimal n) ⌝ }
 {
-    let mut k = 1;
-    let mut rest = n / 10;
-    while rest > 0 {
-        rest /= 10;
-        k += 1;
+    if n < 10 {
+        out[at] = b'0' + n as u8;
+        return at + 1;
     }
-    k
+    let end = put_decimal(n / 10, out, at);
+    out[end] = b'0' + (n % 10) as u8;
+    end + 1
 }
 
-// Puts n's decimal digits and the byte after them from `at` on. Where they end.
+// Puts n's decimal digits and the byte after them.
 fn put_number(n: u64, after: u8, out: &mut [u8], at: usize) -> usize
     requires { ⌜ at + 21 ≤ length (now out) ⌝ }
-    ensures { λ r. ⌜ r ≤ at + 21 ⌝ }
+    ensures put { λ _. ⌜ now (out .exit) ≡ sets (now (out .entry)) at (ended n after) ⌝ }
+    ensures end { λ r. ⌜ r ≡ at + length (ended n after) ⌝ }
+    ensures most { λ r. ⌜ r ≤ at + 21 ⌝ }
 {
-    let end = at + digit_count(n);
-    let mut i = end;
-    let mut rest = n;
-    while i > at {
-        i -= 1;
-        out[i] = b'0' + (rest % 10) as u8;
-        rest /= 10;
-    }
+    let end = put_decimal(n, out, at);
     out[end] = after;
     end + 1
 }
@@ -44,7 +46,9 @@ fn put_number(n: u64, after: u8, out: &mut [u8], at: usize) -> usize
 // Puts a line from `at` on. Where it ends.
 pub(crate) fn put_line(number: u32, place: u64, count: u32, out: &mut [u8], at: usize) -> usize
     requires { ⌜ at + 63 ≤ length (now out) ⌝ }
-    ensures { λ r. ⌜ r ≤ at + 63 ⌝ }
+    ensures put { λ _. ⌜ now (out .exit) ≡ sets (now (out .entry)) at (lineOf number place count) ⌝ }
+    ensures end { λ r. ⌜ r ≡ at + length (lineOf number place count) ⌝ }
+    ensures most { λ r. ⌜ r ≤ at + 63 ⌝ }
 {
     let place_at = put_number(number as u64, b' ', out, at);
     let count_at = put_number(place, b' ', out, place_at);
@@ -54,7 +58,9 @@ pub(crate) fn put_line(number: u32, place: u64, count: u32, out: &mut [u8], at: 
 // The line of the result that begins `from` bytes into `results`.
 pub(crate) fn put_result(results: &[u8], from: usize, out: &mut [u8], at: usize) -> usize
     requires { ⌜ (from + 12 ≤ length (now results)) × (at + 63 ≤ length (now out)) ⌝ }
-    ensures { λ r. ⌜ r ≤ at + 63 ⌝ }
+    ensures put { λ _. ⌜ now (out .exit) ≡ sets (now (out .entry)) at (resultLine (now (results .entry)) from) ⌝ }
+    ensures end { λ r. ⌜ r ≡ at + length (resultLine (now (results .entry)) from) ⌝ }
+    ensures most { λ r. ⌜ r ≤ at + 63 ⌝ }
 {
     let number = read::word_at(results, from);
     let place = read::word_at(results, from + 4);
@@ -69,7 +75,8 @@ pub(crate) fn put_result(results: &[u8], from: usize, out: &mut [u8], at: usize)
 
 pub(crate) fn put_answer(given: Answer, out: &mut [u8], at: usize) -> usize
     requires { ⌜ at + 63 ≤ length (now out) ⌝ }
-    ensures { λ r. ⌜ r ≤ at + 63 ⌝ }
+    ensures put { λ _. ⌜ now (out .exit) ≡ sets (now (out .entry)) at (lineOf (numberOf given) (placeOf given) (countOf given)) ⌝ }
+    ensures most { λ r. ⌜ r ≤ at + 63 ⌝ }
 {
     let number = answer::number(given);
     let place = answer::place(given);

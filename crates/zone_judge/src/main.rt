@@ -5,7 +5,8 @@
 // cut query at the end gives 20, the number of whole queries before it, and 0. What cannot be read or written, and a
 // terminal as standard input, gives a line on standard error: a program has no exit status to say it by. Reading,
 // judging and writing lie apart, in `input`, `judging` and `lines`, over the system's `calls`. Proved: each function is
-// safe and ends. What the library answers is proved in `zone` and the crates under it.
+// safe and ends, and the bytes of a line are those of specs/Line.antt. What the library answers is proved in `zone` and the
+// crates under it; what the system reads and writes is not said anywhere.
 mod calls;
 mod input;
 mod judging;
@@ -22,16 +23,14 @@ fn print_refusal(refusal: Answer) {
 
 // The sheet's refusal, or the answers to what standard input asks.
 fn answer_all(sheet: &[u8]) {
-    let terminal = input::is_terminal();
+    input::warn_of_terminal();
     let zone = sheet::read::read(sheet);
     let outcome = zone.answer;
     if answer::number(outcome) != 0 {
         print_refusal(outcome);
         return;
     }
-    if !terminal {
-        judging::judge_all(sheet);
-    }
+    judging::judge_all(sheet);
 }
 
 fn main() {

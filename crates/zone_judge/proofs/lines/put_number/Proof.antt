@@ -1,73 +1,49 @@
 -- `lines::put_number` meets its contract.
-use mathlib.Core.Path.{_≡_, _∙_}
-use Prim.Native.Nat.{_+_, _-_, _≤_}
+use mathlib.Core.Path.{ap, _∙_}
+use mathlib.Core.List.{List, [], _∷_}
+use Prim.Native.Nat.{ℕ}
 use native.Mathlib.Omega.{arith}
+use lib.ListN.{set}
+use Rattle.big_endian.proofs.Laws.Stores.{stored-on}
+use Rattle.zone_judge.specs.Line.{decimal}
+use Rattle.zone_judge.proofs.Laws.{digits-most, ended-length}
 use borrow.Author.Needs.{needs}
-use lib.ListN.{length, length-set}
 use Rattle.zone_judge.proofs.lines.put_number.Statement.{statement}
 use Rattle.zone_judge.proofs.lines.put_number.Tie as tie
+use Rattle.zone_judge.proofs.lines.put_number.Reads as reads
+use Rattle.zone_judge.proofs.lines.put_number.Lts as lts
+use Rattle.zone_judge.proofs.lines.put_decimal.Reads as put-decimal-reads
 
-abbrev Inv-loop : tie.InvT-loop
-Inv-loop n after out₀ at end i₀ rest₀ out i rest = (length out ≡ length out₀) × (i ≤ end)
+put-decimal-requires : tie.Need-put-decimal-requires
+put-decimal-requires c κs =
+    let a = c .before .before in
+    let m = digits-most (a .args .n) (omega arith) in omega (arith, a .pre)
 
-abbrev μ-loop : tie.MeasureT-loop
-μ-loop n after out₀ at end i₀ rest₀ out i rest = i
+slice-write-out : tie.Need-slice-write-out
+slice-write-out c =
+    let a = c .before .before .before .before .before in
+    let d = c .before .before .put-decimal in
+    let m = digits-most (a .args .n) (omega arith) in omega (arith, d .ensures .1, d .kept .1 .0, a .pre)
 
-digit-count-requires : tie.Need-digit-count-requires Inv-loop μ-loop
-digit-count-requires c κs = search needs
+add-result : tie.Need-add-result
+add-result c =
+    let a = c .before .before .before .before .before in
+    let d = c .before .before .put-decimal in
+    let m = digits-most (a .args .n) (omega arith) in omega (arith, d .ensures .1, a .pre)
 
-add-end : tie.Need-add-end Inv-loop μ-loop
-add-end c = omega arith
-
-loop-holds : tie.Need-loop-holds Inv-loop μ-loop
-loop-holds c = search needs
-
-sub-i : tie.Need-sub-i Inv-loop μ-loop
-sub-i c = omega arith
-
-cast-out : tie.Need-cast-out Inv-loop μ-loop
-cast-out c = omega arith
-
-add-out : tie.Need-add-out Inv-loop μ-loop
-add-out c = omega arith
-
-slice-write-out : tie.Need-slice-write-out Inv-loop μ-loop
-slice-write-out c = omega arith
-
-loop-less : tie.Need-loop-less Inv-loop μ-loop
-loop-less c = omega arith
-
-loop-again : tie.Need-loop-again Inv-loop μ-loop
-loop-again c = (simp length-set (omega arith), omega arith)
-
-slice-write-out-2 : tie.Need-slice-write-out-2 Inv-loop μ-loop
-slice-write-out-2 c = omega arith
-
-add-result : tie.Need-add-result Inv-loop μ-loop
-add-result c = omega arith
-
-same-length : tie.Need-same-length Inv-loop μ-loop
+same-length : tie.Need-same-length
 same-length c = search needs
 
-returns : tie.Need-returns Inv-loop μ-loop
-returns c = omega arith
+returns : tie.Need-returns
+returns c =
+    let a = c .before .before .before .before .before .args in
+    let d = c .before .before .put-decimal in
+    let m = digits-most (a .n) (omega arith) in (
+      ap (λ (o : List ℕ). set o (d .result) (a .after)) (d .ensures .0)
+          ∙ stored-on (a .out .now) (a .at) (d .result) (decimal (a .n)) (a .after ∷ []) (d .ensures .1),
+      (omega (arith, d .ensures .1, ended-length (a .n) (a .after)), omega (arith, d .ensures .1)),
+    )
 
 pub put-number-spec : {M : Type 1} → statement M
 put-number-spec =
-    tie.close
-    (tie.spec
-    Inv-loop
-    μ-loop
-    digit-count-requires
-    add-end
-    loop-holds
-    sub-i
-    cast-out
-    add-out
-    slice-write-out
-    loop-less
-    loop-again
-    slice-write-out-2
-    add-result
-    same-length
-    returns)
+    tie.close (tie.spec put-decimal-requires slice-write-out add-result same-length returns)
