@@ -1,6 +1,7 @@
 //! The basin profile of 512 sides, from the bytes of the vertices to the number: against the same method in C, and
 //! against C that tests pair by pair.
 
+use crate::clock::seconds;
 use crate::instructions::count;
 use crate::table::{counted_row, heading, row};
 use spargolutta_tests::host::Folder;
@@ -10,7 +11,6 @@ use spargolutta_tests::sheet::{points_bytes, Grid, GRIDS};
 use spargolutta_tests::stars::star;
 use std::fs;
 use std::path::Path;
-use std::time::Instant;
 
 const ROUNDS: usize = 60;
 
@@ -68,9 +68,7 @@ fn measure(grid: Grid, vertices: &[u8]) -> Vec<f64> {
     let mut least = vec![f64::INFINITY; 3];
     for _ in 0..ROUNDS {
         for ((_, basin), least) in contestants(grid).iter().zip(&mut least) {
-            let start = Instant::now();
-            assert_eq!(basin(vertices), 0);
-            *least = least.min(1e3 * start.elapsed().as_secs_f64());
+            *least = least.min(1e3 * seconds(|| assert_eq!(basin(vertices), 0)));
         }
     }
     least

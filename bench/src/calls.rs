@@ -1,11 +1,11 @@
 //! One call, from a sheet's bytes and a query to the number.
 
+use crate::clock::seconds;
 use crate::plain_c;
 use crate::table::{heading, row, thousands};
 use spargolutta_tests::islands::{islands, queries, Extent, SIDES};
 use spargolutta_tests::{library, Point};
 use spargolutta_yardstick::hoisted;
-use std::time::Instant;
 
 const ROUNDS: usize = 60;
 
@@ -33,9 +33,8 @@ fn measure(contestants: &[Contestant], sheet: &[u8], queries: &[Point]) -> Vec<f
     let mut sums = vec![0; contestants.len()];
     for _ in 0..ROUNDS {
         for (k, contestant) in contestants.iter().enumerate() {
-            let start = Instant::now();
-            sums[k] += queries.iter().map(|&query| contestant(sheet, query)).sum::<u32>();
-            least[k] = least[k].min(1e6 * start.elapsed().as_secs_f64() / queries.len() as f64);
+            let ask = || sums[k] += queries.iter().map(|&query| contestant(sheet, query)).sum::<u32>();
+            least[k] = least[k].min(1e6 * seconds(ask) / queries.len() as f64);
         }
     }
     assert!(sums.iter().all(|sum| *sum == sums[0]));

@@ -1,11 +1,11 @@
 //! Two sheets of 4,096 vertices compared: a ring that was started elsewhere, and the costliest, of which every second
 //! start agrees up to the last vertex.
 
+use crate::clock::seconds;
 use crate::table::{figure, heading, line};
 use spargolutta_tests::islands::{islands, Extent};
 use spargolutta_tests::library;
 use spargolutta_tests::sheet::Sheet;
-use std::time::Instant;
 
 const ROUNDS: usize = 20;
 
@@ -14,9 +14,7 @@ fn measure(left: &[u8], right: &[u8], way: u32) -> f64 {
     assert_eq!(library::compare(left, right).way, way);
     let mut least = f64::INFINITY;
     for _ in 0..ROUNDS {
-        let start = Instant::now();
-        assert_eq!(library::compare_number(left, right), 0);
-        least = least.min(1e3 * start.elapsed().as_secs_f64());
+        least = least.min(1e3 * seconds(|| assert_eq!(library::compare_number(left, right), 0)));
     }
     least
 }

@@ -1,12 +1,12 @@
 //! A feed call, from the bytes of a sheet and of the queries to those of the results.
 
+use crate::clock::seconds;
 use crate::plain_c;
 use crate::table::{heading, judge, row, thousands};
 use spargolutta_tests::islands::{islands_on, queries, Extent, EXTENTS, QUERIES, SIDES};
 use spargolutta_tests::library::{self, by_boxes};
 use spargolutta_tests::sheet::{points_bytes, sides, Grid};
 use spargolutta_yardstick::{hoisted, literal};
-use std::time::Instant;
 
 const ROUNDS: usize = 12;
 
@@ -92,9 +92,8 @@ pub fn measure(feeds: &[Feed], work: &Work, rounds: usize) -> Vec<(f64, Vec<u8>)
     for _ in 0..rounds {
         for (feed, (least, results)) in feeds.iter().zip(&mut measured) {
             results.fill(0);
-            let start = Instant::now();
-            assert_eq!(feed(&work.sheet, &work.queries, results), 0);
-            *least = least.min(1e3 * start.elapsed().as_secs_f64());
+            let time = seconds(|| assert_eq!(feed(&work.sheet, &work.queries, results), 0));
+            *least = least.min(1e3 * time);
         }
     }
     measured

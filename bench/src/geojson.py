@@ -35,9 +35,9 @@ def main():
         text = file.read()
     least = math.inf
     for _ in range(ROUNDS):
-        start = time.perf_counter()
+        start = time.process_time()
         sheet = import_zone(text)
-        least = min(least, time.perf_counter() - start)
+        least = min(least, time.process_time() - start)
     with open(sys.argv[2], "wb") as file:
         file.write(sheet)
     print(1e6 * least)

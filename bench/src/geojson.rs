@@ -1,12 +1,12 @@
 //! An import, from the text of a ring of 1,071 positions to its sheet.
 
+use crate::clock::seconds;
 use crate::table::{counted_row, heading, line, row, thousands};
 use crate::{instructions, plain_c};
 use spargolutta_tests::host::{command, Folder};
 use spargolutta_tests::imports::{circle, given, import_number, text, Given};
 use std::fs;
 use std::path::Path;
-use std::time::Instant;
 
 const ROUNDS: usize = 200;
 const POSITIONS: usize = 1_071;
@@ -42,9 +42,8 @@ fn measure(text: &[u8]) -> (Vec<f64>, Vec<Vec<u8>>) {
     let mut sheets = vec![room(); CONTESTANTS.len()];
     for _ in 0..ROUNDS {
         for (k, (_, import)) in CONTESTANTS.iter().enumerate() {
-            let start = Instant::now();
-            assert_eq!(import(text, &given(), &mut sheets[k]), 0);
-            least[k] = least[k].min(1e6 * start.elapsed().as_secs_f64());
+            let time = seconds(|| assert_eq!(import(text, &given(), &mut sheets[k]), 0));
+            least[k] = least[k].min(1e6 * time);
         }
     }
     (least, sheets)

@@ -1,7 +1,7 @@
 //! The library against document 02's P2 in checked Rust and in C: one call, the program, a feed on each grid; the index
 //! of long feeds against the boxes; the basin profile and an import against C; and a book against single calls on its
-//! sheets. The contestants take turns, and the
-//! least time of many rounds counts. Prints tables, and draws the times of feeds as docs/feed-time.svg.
+//! sheets. The contestants take turns, and the least processor time of many rounds counts. Prints tables, and draws the
+//! times of feeds as docs/feed-time.svg.
 //!
 //! Started with a folder and a contestant it makes one feed call, one of the basin profile, one import, or asks one
 //! book: what `instructions` counts.
@@ -9,6 +9,7 @@
 mod basin;
 mod book;
 mod calls;
+mod clock;
 mod comparisons;
 mod feeds;
 mod geojson;
@@ -28,7 +29,8 @@ fn processor() -> String {
     name.unwrap_or("unknown processor").to_string()
 }
 
-/// Running programs, on average over 1, 5 and 15 minutes: with more than the machine's cores, times are too long.
+/// Running programs, on average over 1, 5 and 15 minutes: with more than the machine's cores the caches are shared, and
+/// even processor times are somewhat too long.
 fn print_load(when: &str) {
     let text = fs::read_to_string("/proc/loadavg").unwrap_or_default();
     let averages: Vec<&str> = text.split(' ').take(3).collect();
@@ -47,7 +49,7 @@ fn main() {
         [folder, _, contestant] => return geojson::import_once(folder.as_ref(), contestant),
         _ => {}
     }
-    println!("On {}. In brackets: ours divided by the figure before them.", processor());
+    println!("On {}, processor time. In brackets: ours divided by the figure before them.", processor());
     print_load("before");
     calls::compare();
     program::compare();

@@ -1,5 +1,6 @@
 //! The program against one in C: a million queries in, a million lines out.
 
+use crate::clock::seconds_of_programs;
 use crate::table::{heading, row, thousands};
 use spargolutta_tests::host::{repository, Folder};
 use spargolutta_tests::random::Random;
@@ -7,21 +8,17 @@ use spargolutta_tests::sheet::{octant, points_bytes};
 use std::fs::{self, File};
 use std::path::Path;
 use std::process::Command;
-use std::time::Instant;
 
 const QUERIES: usize = 1_000_000;
 const ROUNDS: usize = 5;
 
 /// Milliseconds that a program needs for the folder's queries.
 fn run(program: &Path, folder: &Folder, answers: &str) -> f64 {
-    let start = Instant::now();
-    let status = Command::new(program)
-        .current_dir(folder.path(""))
-        .stdin(File::open(folder.path("queries")).expect("queries"))
-        .stdout(File::create(folder.path(answers)).expect("answers"))
-        .status();
-    assert!(status.expect("status").success());
-    1e3 * start.elapsed().as_secs_f64()
+    let mut command = Command::new(program);
+    command.current_dir(folder.path(""));
+    command.stdin(File::open(folder.path("queries")).expect("queries"));
+    command.stdout(File::create(folder.path(answers)).expect("answers"));
+    1e3 * seconds_of_programs(|| assert!(command.status().expect("status").success()))
 }
 
 pub fn compare() {

@@ -4,4 +4,5 @@
 // call is in crate judging.
 pub mod checks;
 pub mod grids;
+mod quick;
 pub mod vertices;
