@@ -807,31 +807,98 @@ static inline type_sheet__open__Opened sheet__open__points(slice_uint8_t l1)
     return l0;
 }
 
-static inline void big_endian__read__decode(slice_uint8_t l1, uint64_t l2, uint64_t l3, slice_uint32_t l4)
+static inline void big_endian__read__decode_four(slice_uint8_t l1, uint64_t l2, uint64_t l3, slice_uint32_t l4)
 {
     uint64_t l5;
-    bool l6;
+    uint64_t l6;
     uint32_t l7;
-    uint64_t l8;
+    unsigned char *l8;
     uint64_t l9;
     uint64_t l10;
     unsigned char *l11;
-    l5 = UINT64_C(0);
+    unsigned char *l12;
+    unsigned char *l13;
+    l6 = (l3 * UINT64_C(4));
+    l5 = (l2 + l6);
+    l7 = big_endian__read__int_at(l1, l5);
+    l6 = (l3 * UINT64_C(4));
+    l8 = ((unsigned char *)(void *)l4.f0 + (size_t)l6);
+    (*(uint32_t *)(void *)l8) = l7;
+    l6 = (l5 + UINT64_C(4));
+    l7 = big_endian__read__int_at(l1, l6);
+    l9 = (l3 + UINT64_C(1));
+    l10 = (l9 * UINT64_C(4));
+    l11 = ((unsigned char *)(void *)l4.f0 + (size_t)l10);
+    (*(uint32_t *)(void *)l11) = l7;
+    l10 = (l5 + UINT64_C(8));
+    l7 = big_endian__read__int_at(l1, l10);
+    l9 = (l3 + UINT64_C(2));
+    l6 = (l9 * UINT64_C(4));
+    l12 = ((unsigned char *)(void *)l4.f0 + (size_t)l6);
+    (*(uint32_t *)(void *)l12) = l7;
+    l6 = (l5 + UINT64_C(12));
+    l7 = big_endian__read__int_at(l1, l6);
+    l9 = (l3 + UINT64_C(3));
+    l10 = (l9 * UINT64_C(4));
+    l13 = ((unsigned char *)(void *)l4.f0 + (size_t)l10);
+    (*(uint32_t *)(void *)l13) = l7;
+    return;
+}
+
+static inline void big_endian__read__decode(slice_uint8_t l1, uint64_t l2, uint64_t l3, slice_uint32_t l4)
+{
+    uint64_t l5;
+    uint64_t l6;
+    uint64_t l7;
+    bool l8;
+    uint64_t l10;
+    uint32_t *l11;
+    slice_uint32_t l12;
+    uint64_t l13;
+    uint32_t *l14;
+    slice_uint32_t l15;
+    bool l16;
+    uint32_t l17;
+    uint64_t l18;
+    uint64_t l19;
+    uint64_t l20;
+    unsigned char *l21;
+    l5 = (l3 / UINT64_C(8));
+    l6 = UINT64_C(0);
     for (;;) {
-        l6 = (l5 < l3);
-        if (l6) {
+        l8 = (l6 < l5);
+        if (l8) {
         } else {
             goto exit0;
         }
-        l8 = (l5 * UINT64_C(4));
-        l9 = (l2 + l8);
-        l7 = big_endian__read__int_at(l1, l9);
-        l10 = (l5 * UINT64_C(4));
-        l11 = ((unsigned char *)(void *)l4.f0 + (size_t)l10);
-        (*(uint32_t *)(void *)l11) = l7;
-        l5 = (l5 + UINT64_C(1));
+        l10 = (l6 * UINT64_C(8));
+        l11 = (uint32_t *)(void *)&(*l4.f0);
+        l12 = (slice_uint32_t){.f0 = l11, .f1 = l4.f1};
+        big_endian__read__decode_four(l1, l2, l10, l12);
+        l10 = (l6 * UINT64_C(8));
+        l13 = (l10 + UINT64_C(4));
+        l14 = (uint32_t *)(void *)&(*l4.f0);
+        l15 = (slice_uint32_t){.f0 = l14, .f1 = l4.f1};
+        big_endian__read__decode_four(l1, l2, l13, l15);
+        l6 = (l6 + UINT64_C(1));
     }
 exit0:;
+    l7 = (l5 * UINT64_C(8));
+    for (;;) {
+        l16 = (l7 < l3);
+        if (l16) {
+        } else {
+            goto exit1;
+        }
+        l18 = (l7 * UINT64_C(4));
+        l19 = (l2 + l18);
+        l17 = big_endian__read__int_at(l1, l19);
+        l20 = (l7 * UINT64_C(4));
+        l21 = ((unsigned char *)(void *)l4.f0 + (size_t)l20);
+        (*(uint32_t *)(void *)l21) = l17;
+        l7 = (l7 + UINT64_C(1));
+    }
+exit1:;
     return;
 }
 
@@ -894,24 +961,6 @@ static inline uint64_t polygon__vertices__number_at(slice_uint32_t l1, uint64_t 
     return l0;
 }
 
-static inline type_sphere__point__Point polygon__vertices__vertex_at(slice_uint32_t l1, uint64_t l2)
-{
-    type_sphere__point__Point l0;
-    uint64_t l3;
-    uint64_t l4;
-    uint64_t l5;
-    uint64_t l6;
-    uint64_t l7;
-    l3 = (l2 * UINT64_C(3));
-    l4 = polygon__vertices__number_at(l1, l3);
-    l7 = (l3 + UINT64_C(1));
-    l5 = polygon__vertices__number_at(l1, l7);
-    l7 = (l3 + UINT64_C(2));
-    l6 = polygon__vertices__number_at(l1, l7);
-    l0 = (type_sphere__point__Point){.f0 = l4, .f1 = l5, .f2 = l6};
-    return l0;
-}
-
 static inline uint64_t sphere__point__limit(type_sphere__point__Grid l1)
 {
     uint64_t l0;
@@ -944,6 +993,73 @@ static inline bool sphere__point__is_far(type_sphere__point__Grid l1, uint64_t l
         return l0;
     }
     l0 = (signed64(l3) < signed64(l2));
+    return l0;
+}
+
+static inline uint32_t polygon__checks__far_at(type_sphere__point__Grid l1, slice_uint32_t l2, uint64_t l3)
+{
+    uint32_t l0;
+    bool l4;
+    uint64_t l5;
+    l5 = polygon__vertices__number_at(l2, l3);
+    l4 = sphere__point__is_far(l1, l5);
+    if (l4) {
+        l0 = UINT32_C(1);
+        return l0;
+    }
+    l0 = UINT32_C(0);
+    return l0;
+}
+
+static inline uint32_t polygon__checks__count_far(type_sphere__point__Grid l1, slice_uint32_t l2)
+{
+    uint32_t l0;
+    uint32_t l3;
+    uint64_t l4;
+    uint64_t l5;
+    bool l6;
+    uint32_t l7;
+    l3 = UINT32_C(0);
+    l4 = UINT64_C(0);
+    l5 = l2.f1;
+    for (;;) {
+        l6 = (l4 < l5);
+        if (l6) {
+        } else {
+            goto exit0;
+        }
+        l7 = polygon__checks__far_at(l1, l2, l4);
+        l3 = (l3 + l7);
+        l4 = (l4 + UINT64_C(1));
+    }
+exit0:;
+    l0 = l3;
+    return l0;
+}
+
+static inline bool polygon__checks__is_near(type_sphere__point__Grid l1, slice_uint32_t l2)
+{
+    bool l0;
+    bool l3;
+    uint32_t l4;
+    type_sphere__point__Grid l5;
+    uint32_t l6;
+    type_sphere__point__Grid l7;
+    switch (l1.tag) {
+    case 0: {
+        l5 = (type_sphere__point__Grid){.tag = 0};
+        l4 = polygon__checks__count_far(l5, l2);
+        l3 = (l4 == UINT32_C(0));
+        break;
+    }
+    case 1: default: {
+        l7 = (type_sphere__point__Grid){.tag = 1};
+        l6 = polygon__checks__count_far(l7, l2);
+        l3 = (l6 == UINT32_C(0));
+        break;
+    }
+    }
+    l0 = l3;
     return l0;
 }
 
@@ -996,31 +1112,56 @@ static inline bool sphere__point__is_null(type_sphere__point__Point l1)
     return l0;
 }
 
-static inline uint64_t polygon__vertices__next_of(uint64_t l1, uint64_t l2)
+static inline bool sphere__point__is_off_grid(type_sphere__point__Grid l1, type_sphere__point__Point l2)
 {
-    uint64_t l0;
-    uint64_t l3;
-    bool l4;
-    l3 = (l2 + UINT64_C(1));
-    l4 = (l3 < l1);
-    if (l4) {
-        l0 = l3;
+    bool l0;
+    bool l3;
+    l3 = sphere__point__is_beyond(l1, l2);
+    if (l3) {
+        l0 = true;
         return l0;
     }
-    l0 = UINT64_C(0);
+    l0 = sphere__point__is_null(l2);
     return l0;
 }
 
-static inline type_sphere__point__Point polygon__vertices__end_of(slice_uint32_t l1, uint64_t l2)
+static inline type_answer__Check answer__fails_if(uint32_t l1, bool l2)
+{
+    type_answer__Check l0;
+    bool l3;
+    l3 = l2;
+    if (l3) {
+        l0 = (type_answer__Check){.tag = 1, .s0 = l1, .s1 = UINT64_C(0)};
+        return l0;
+    }
+    l0 = (type_answer__Check){.tag = 0};
+    return l0;
+}
+
+static inline type_answer__Check polygon__checks__reference_check(type_sphere__point__Grid l1, type_sphere__point__Point l2)
+{
+    type_answer__Check l0;
+    bool l3;
+    l3 = sphere__point__is_off_grid(l1, l2);
+    l0 = answer__fails_if(UINT32_C(15), l3);
+    return l0;
+}
+
+static inline type_sphere__point__Point polygon__vertices__vertex_at(slice_uint32_t l1, uint64_t l2)
 {
     type_sphere__point__Point l0;
     uint64_t l3;
     uint64_t l4;
     uint64_t l5;
-    l4 = l1.f1;
-    l5 = (l4 / UINT64_C(3));
-    l3 = polygon__vertices__next_of(l5, l2);
-    l0 = polygon__vertices__vertex_at(l1, l3);
+    uint64_t l6;
+    uint64_t l7;
+    l3 = (l2 * UINT64_C(3));
+    l4 = polygon__vertices__number_at(l1, l3);
+    l7 = (l3 + UINT64_C(1));
+    l5 = polygon__vertices__number_at(l1, l7);
+    l7 = (l3 + UINT64_C(2));
+    l6 = polygon__vertices__number_at(l1, l7);
+    l0 = (type_sphere__point__Point){.f0 = l4, .f1 = l5, .f2 = l6};
     return l0;
 }
 
@@ -1058,72 +1199,6 @@ static inline type_sphere__point__Point sphere__orientation__cross(type_sphere__
     l16 = (l4 * l6);
     l17 = (l15 - l16);
     l0 = (type_sphere__point__Point){.f0 = l11, .f1 = l14, .f2 = l17};
-    return l0;
-}
-
-static inline bool sphere__direction__parallel(type_sphere__point__Point l1, type_sphere__point__Point l2)
-{
-    bool l0;
-    type_sphere__point__Point l3;
-    l3 = sphere__orientation__cross(l1, l2);
-    l0 = sphere__point__is_null(l3);
-    return l0;
-}
-
-static inline uint64_t sphere__orientation__dot(type_sphere__point__Point l1, type_sphere__point__Point l2)
-{
-    uint64_t l0;
-    uint64_t l3;
-    uint64_t l4;
-    uint64_t l5;
-    uint64_t l6;
-    uint64_t l7;
-    uint64_t l8;
-    uint64_t l9;
-    uint64_t l10;
-    uint64_t l11;
-    uint64_t l12;
-    l3 = l1.f0;
-    l4 = l1.f1;
-    l5 = l1.f2;
-    l6 = l2.f0;
-    l7 = l2.f1;
-    l8 = l2.f2;
-    l9 = (l3 * l6);
-    l10 = (l4 * l7);
-    l11 = (l9 + l10);
-    l12 = (l5 * l8);
-    l0 = (l11 + l12);
-    return l0;
-}
-
-static inline bool sphere__direction__same_direction(type_sphere__point__Point l1, type_sphere__point__Point l2)
-{
-    bool l0;
-    bool l3;
-    uint64_t l4;
-    l3 = sphere__direction__parallel(l1, l2);
-    if (l3) {
-        l4 = sphere__orientation__dot(l1, l2);
-        l0 = (signed64(UINT64_C(0)) < signed64(l4));
-        return l0;
-    }
-    l0 = false;
-    return l0;
-}
-
-static inline bool sphere__direction__antipodal(type_sphere__point__Point l1, type_sphere__point__Point l2)
-{
-    bool l0;
-    bool l3;
-    uint64_t l4;
-    l3 = sphere__direction__parallel(l1, l2);
-    if (l3) {
-        l4 = sphere__orientation__dot(l1, l2);
-        l0 = (signed64(l4) < signed64(UINT64_C(0)));
-        return l0;
-    }
-    l0 = false;
     return l0;
 }
 
@@ -1192,6 +1267,33 @@ static inline type_sphere__plane__Plane sphere__plane__plane_through(type_sphere
     l4 = sphere__orientation__cross(l2, l3);
     l5 = sphere__plane__floats_for(l1, l2, l3);
     l0 = (type_sphere__plane__Plane){.f0 = l4, .f1 = l5, .f2 = l1};
+    return l0;
+}
+
+static inline uint64_t sphere__orientation__dot(type_sphere__point__Point l1, type_sphere__point__Point l2)
+{
+    uint64_t l0;
+    uint64_t l3;
+    uint64_t l4;
+    uint64_t l5;
+    uint64_t l6;
+    uint64_t l7;
+    uint64_t l8;
+    uint64_t l9;
+    uint64_t l10;
+    uint64_t l11;
+    uint64_t l12;
+    l3 = l1.f0;
+    l4 = l1.f1;
+    l5 = l1.f2;
+    l6 = l2.f0;
+    l7 = l2.f1;
+    l8 = l2.f2;
+    l9 = (l3 * l6);
+    l10 = (l4 * l7);
+    l11 = (l9 + l10);
+    l12 = (l5 * l8);
+    l0 = (l11 + l12);
     return l0;
 }
 
@@ -1353,6 +1455,43 @@ static inline uint64_t sphere__plane__side_of(type_sphere__plane__Plane l1, type
     return l0;
 }
 
+static inline bool polygon__checks__is_level(type_sphere__plane__Plane l1, type_sphere__point__Point l2)
+{
+    bool l0;
+    uint64_t l3;
+    l3 = sphere__plane__side_of(l1, l2);
+    l0 = (l3 == UINT64_C(0));
+    return l0;
+}
+
+static inline uint64_t polygon__vertices__next_of(uint64_t l1, uint64_t l2)
+{
+    uint64_t l0;
+    uint64_t l3;
+    bool l4;
+    l3 = (l2 + UINT64_C(1));
+    l4 = (l3 < l1);
+    if (l4) {
+        l0 = l3;
+        return l0;
+    }
+    l0 = UINT64_C(0);
+    return l0;
+}
+
+static inline type_sphere__point__Point polygon__vertices__end_of(slice_uint32_t l1, uint64_t l2)
+{
+    type_sphere__point__Point l0;
+    uint64_t l3;
+    uint64_t l4;
+    uint64_t l5;
+    l4 = l1.f1;
+    l5 = (l4 / UINT64_C(3));
+    l3 = polygon__vertices__next_of(l5, l2);
+    l0 = polygon__vertices__vertex_at(l1, l3);
+    return l0;
+}
+
 static inline uint64_t sphere__plane__turn(type_sphere__point__Grid l1, type_sphere__point__Point l2, type_sphere__point__Point l3, type_sphere__point__Point l4)
 {
     uint64_t l0;
@@ -1368,6 +1507,179 @@ static inline bool sphere__edge__on_circle(type_sphere__point__Grid l1, type_sph
     uint64_t l5;
     l5 = sphere__plane__turn(l1, l2, l3, l4);
     l0 = (l5 == UINT64_C(0));
+    return l0;
+}
+
+static inline bool polygon__checks__off_each(type_sphere__point__Grid l1, slice_uint32_t l2, type_sphere__point__Point l3)
+{
+    bool l0;
+    uint64_t l4;
+    type_sphere__point__Point l5;
+    uint64_t l6;
+    type_sphere__point__Point l7;
+    type_sphere__plane__Plane l8;
+    type_sphere__point__Point l9;
+    type_sphere__point__Point l10;
+    type_sphere__point__Point l11;
+    uint64_t l12;
+    uint64_t l13;
+    bool l14;
+    bool l15;
+    bool l16;
+    bool l17;
+    bool l18;
+    l12 = l2.f1;
+    l4 = (l12 / UINT64_C(3));
+    l5 = polygon__vertices__vertex_at(l2, UINT64_C(0));
+    l6 = UINT64_C(0);
+    for (;;) {
+        l13 = (l6 + UINT64_C(2));
+        l14 = (l13 < l4);
+        if (l14) {
+        } else {
+            goto exit0;
+        }
+        l13 = (l6 + UINT64_C(1));
+        l7 = polygon__vertices__vertex_at(l2, l13);
+        l8 = sphere__plane__plane_through(l1, l7, l3);
+        l15 = polygon__checks__is_level(l8, l5);
+        if (l15) {
+            l0 = false;
+            return l0;
+        }
+        l13 = (l6 + UINT64_C(2));
+        l9 = polygon__vertices__vertex_at(l2, l13);
+        l16 = polygon__checks__is_level(l8, l9);
+        if (l16) {
+            l0 = false;
+            return l0;
+        }
+        l5 = l9;
+        l6 = (l6 + UINT64_C(2));
+    }
+exit0:;
+    for (;;) {
+        l17 = (l6 < l4);
+        if (l17) {
+        } else {
+            goto exit1;
+        }
+        l10 = polygon__vertices__vertex_at(l2, l6);
+        l11 = polygon__vertices__end_of(l2, l6);
+        l18 = sphere__edge__on_circle(l1, l10, l11, l3);
+        if (l18) {
+            l0 = false;
+            return l0;
+        }
+        l6 = (l6 + UINT64_C(1));
+    }
+exit1:;
+    l0 = true;
+    return l0;
+}
+
+static inline bool polygon__checks__off_circles(type_sphere__point__Grid l1, slice_uint32_t l2, type_sphere__point__Point l3)
+{
+    bool l0;
+    bool l4;
+    type_sphere__point__Grid l5;
+    type_sphere__point__Grid l6;
+    switch (l1.tag) {
+    case 0: {
+        l5 = (type_sphere__point__Grid){.tag = 0};
+        l4 = polygon__checks__off_each(l5, l2, l3);
+        break;
+    }
+    case 1: default: {
+        l6 = (type_sphere__point__Grid){.tag = 1};
+        l4 = polygon__checks__off_each(l6, l2, l3);
+        break;
+    }
+    }
+    l0 = l4;
+    return l0;
+}
+
+static inline bool polygon__checks__accepts(type_sphere__point__Grid l1, slice_uint32_t l2, type_sphere__point__Point l3)
+{
+    bool l0;
+    type_answer__Check l4;
+    l4 = polygon__checks__reference_check(l1, l3);
+    switch (l4.tag) {
+    case 0: {
+        break;
+    }
+    case 1: default: {
+        l0 = false;
+        return l0;
+        break;
+    }
+    }
+    l0 = polygon__checks__off_circles(l1, l2, l3);
+    return l0;
+}
+
+static inline bool polygon__checks__is_accepted(type_sphere__point__Grid l1, slice_uint32_t l2, type_sphere__point__Point l3)
+{
+    bool l0;
+    type_answer__Check l4;
+    bool l5;
+    l4 = polygon__checks__list_check(l2);
+    switch (l4.tag) {
+    case 0: {
+        break;
+    }
+    case 1: default: {
+        l0 = false;
+        return l0;
+        break;
+    }
+    }
+    l5 = polygon__checks__is_near(l1, l2);
+    if (l5) {
+        l0 = polygon__checks__accepts(l1, l2, l3);
+        return l0;
+    }
+    l0 = false;
+    return l0;
+}
+
+static inline bool sphere__direction__parallel(type_sphere__point__Point l1, type_sphere__point__Point l2)
+{
+    bool l0;
+    type_sphere__point__Point l3;
+    l3 = sphere__orientation__cross(l1, l2);
+    l0 = sphere__point__is_null(l3);
+    return l0;
+}
+
+static inline bool sphere__direction__same_direction(type_sphere__point__Point l1, type_sphere__point__Point l2)
+{
+    bool l0;
+    bool l3;
+    uint64_t l4;
+    l3 = sphere__direction__parallel(l1, l2);
+    if (l3) {
+        l4 = sphere__orientation__dot(l1, l2);
+        l0 = (signed64(UINT64_C(0)) < signed64(l4));
+        return l0;
+    }
+    l0 = false;
+    return l0;
+}
+
+static inline bool sphere__direction__antipodal(type_sphere__point__Point l1, type_sphere__point__Point l2)
+{
+    bool l0;
+    bool l3;
+    uint64_t l4;
+    l3 = sphere__direction__parallel(l1, l2);
+    if (l3) {
+        l4 = sphere__orientation__dot(l1, l2);
+        l0 = (signed64(l4) < signed64(UINT64_C(0)));
+        return l0;
+    }
+    l0 = false;
     return l0;
 }
 
@@ -1498,128 +1810,6 @@ exit0:;
     return l0;
 }
 
-static inline bool sphere__point__is_off_grid(type_sphere__point__Grid l1, type_sphere__point__Point l2)
-{
-    bool l0;
-    bool l3;
-    l3 = sphere__point__is_beyond(l1, l2);
-    if (l3) {
-        l0 = true;
-        return l0;
-    }
-    l0 = sphere__point__is_null(l2);
-    return l0;
-}
-
-static inline type_answer__Check answer__fails_if(uint32_t l1, bool l2)
-{
-    type_answer__Check l0;
-    bool l3;
-    l3 = l2;
-    if (l3) {
-        l0 = (type_answer__Check){.tag = 1, .s0 = l1, .s1 = UINT64_C(0)};
-        return l0;
-    }
-    l0 = (type_answer__Check){.tag = 0};
-    return l0;
-}
-
-static inline type_answer__Check polygon__checks__reference_check(type_sphere__point__Grid l1, type_sphere__point__Point l2)
-{
-    type_answer__Check l0;
-    bool l3;
-    l3 = sphere__point__is_off_grid(l1, l2);
-    l0 = answer__fails_if(UINT32_C(15), l3);
-    return l0;
-}
-
-static inline type_answer__Check polygon__checks__circle_check(type_sphere__point__Grid l1, slice_uint32_t l2, type_sphere__point__Point l3)
-{
-    type_answer__Check l0;
-    type_answer__Check l4;
-    type_polygon__checks__Line l5;
-    type_polygon__checks__Line l6;
-    switch (l1.tag) {
-    case 0: {
-        l5 = (type_polygon__checks__Line){.tag = 4, .s0 = l3};
-        l4 = polygon__checks__line_check(l5, l1, l2);
-        break;
-    }
-    case 1: default: {
-        l6 = (type_polygon__checks__Line){.tag = 5, .s0 = l3};
-        l4 = polygon__checks__line_check(l6, l1, l2);
-        break;
-    }
-    }
-    l0 = l4;
-    return l0;
-}
-
-static inline bool polygon__checks__accepts(type_sphere__point__Grid l1, slice_uint32_t l2, type_sphere__point__Point l3)
-{
-    bool l0;
-    type_answer__Check l4;
-    type_answer__Check l5;
-    bool l6;
-    l4 = polygon__checks__reference_check(l1, l3);
-    switch (l4.tag) {
-    case 0: {
-        break;
-    }
-    case 1: default: {
-        l0 = false;
-        return l0;
-        break;
-    }
-    }
-    l5 = polygon__checks__circle_check(l1, l2, l3);
-    switch (l5.tag) {
-    case 0: {
-        l6 = true;
-        break;
-    }
-    case 1: default: {
-        l6 = false;
-        break;
-    }
-    }
-    l0 = l6;
-    return l0;
-}
-
-static inline bool polygon__checks__is_accepted(type_sphere__point__Grid l1, slice_uint32_t l2, type_sphere__point__Point l3)
-{
-    bool l0;
-    type_answer__Check l4;
-    type_answer__Check l5;
-    type_polygon__checks__Line l6;
-    l4 = polygon__checks__list_check(l2);
-    switch (l4.tag) {
-    case 0: {
-        break;
-    }
-    case 1: default: {
-        l0 = false;
-        return l0;
-        break;
-    }
-    }
-    l6 = (type_polygon__checks__Line){.tag = 0};
-    l5 = polygon__checks__line_check(l6, l1, l2);
-    switch (l5.tag) {
-    case 0: {
-        break;
-    }
-    case 1: default: {
-        l0 = false;
-        return l0;
-        break;
-    }
-    }
-    l0 = polygon__checks__accepts(l1, l2, l3);
-    return l0;
-}
-
 static inline type_answer__Check polygon__checks__polygon_check(type_sphere__point__Grid l1, slice_uint32_t l2)
 {
     type_answer__Check l0;
@@ -1693,6 +1883,28 @@ static inline type_answer__Check polygon__checks__polygon_check(type_sphere__poi
     }
     l13 = (type_polygon__checks__Line){.tag = 3};
     l0 = polygon__checks__line_check(l13, l1, l2);
+    return l0;
+}
+
+static inline type_answer__Check polygon__checks__circle_check(type_sphere__point__Grid l1, slice_uint32_t l2, type_sphere__point__Point l3)
+{
+    type_answer__Check l0;
+    type_answer__Check l4;
+    type_polygon__checks__Line l5;
+    type_polygon__checks__Line l6;
+    switch (l1.tag) {
+    case 0: {
+        l5 = (type_polygon__checks__Line){.tag = 4, .s0 = l3};
+        l4 = polygon__checks__line_check(l5, l1, l2);
+        break;
+    }
+    case 1: default: {
+        l6 = (type_polygon__checks__Line){.tag = 5, .s0 = l3};
+        l4 = polygon__checks__line_check(l6, l1, l2);
+        break;
+    }
+    }
+    l0 = l4;
     return l0;
 }
 
@@ -1797,12 +2009,12 @@ static inline uint64_t search__boxes__greater(uint64_t l1, uint64_t l2)
 {
     uint64_t l0;
     bool l3;
-    l3 = (signed64(l1) < signed64(l2));
+    l3 = (signed64(l2) < signed64(l1));
     if (l3) {
-        l0 = l2;
+        l0 = l1;
         return l0;
     }
-    l0 = l1;
+    l0 = l2;
     return l0;
 }
 
@@ -1827,29 +2039,39 @@ static inline type_search__boxes__Bounds search__boxes__run_box(slice_uint32_t l
     type_sphere__point__Point l5;
     uint64_t l6;
     type_sphere__point__Point l7;
-    uint64_t l8;
+    type_sphere__point__Point l8;
     uint64_t l9;
-    bool l10;
-    l8 = l1.f1;
-    l9 = (l8 / UINT64_C(3));
-    l3 = search__boxes__run_end(l9, l2);
-    l8 = (l2 * UINT64_C(32));
-    l4 = polygon__vertices__vertex_at(l1, l8);
+    uint64_t l10;
+    uint64_t l11;
+    bool l12;
+    uint64_t l13;
+    type_sphere__point__Point l14;
+    type_sphere__point__Point l15;
+    l10 = l1.f1;
+    l11 = (l10 / UINT64_C(3));
+    l9 = search__boxes__run_end(l11, l2);
+    l3 = (l9 - UINT64_C(1));
+    l9 = (l2 * UINT64_C(32));
+    l4 = polygon__vertices__vertex_at(l1, l9);
     l5 = l4;
     l6 = (l2 * UINT64_C(32));
     for (;;) {
-        l10 = (l6 < l3);
-        if (l10) {
+        l12 = (l6 < l3);
+        if (l12) {
         } else {
             goto exit0;
         }
-        l7 = polygon__vertices__end_of(l1, l6);
+        l13 = (l6 + UINT64_C(1));
+        l7 = polygon__vertices__vertex_at(l1, l13);
         l4 = search__boxes__least(l4, l7);
         l5 = search__boxes__greatest(l5, l7);
         l6 = (l6 + UINT64_C(1));
     }
 exit0:;
-    l0 = (type_search__boxes__Bounds){.f0 = l4, .f1 = l5};
+    l8 = polygon__vertices__end_of(l1, l3);
+    l14 = search__boxes__least(l4, l8);
+    l15 = search__boxes__greatest(l5, l8);
+    l0 = (type_search__boxes__Bounds){.f0 = l14, .f1 = l15};
     return l0;
 }
 
@@ -8551,91 +8773,193 @@ static inline uint64_t angles__point__quarter_of(uint64_t l1)
     return l0;
 }
 
-static inline uint64_t angles__series__rest(uint64_t l1, uint64_t l2, uint64_t l3)
-{
-    uint64_t l0;
-    uint64_t l4;
-    uint64_t l5;
-    uint64_t l6;
-    l4 = (l1 * l2);
-    l5 = (UINT64_C(67108864) * l3);
-    l6 = (l4 / l5);
-    l0 = (UINT64_C(67108864) - l6);
-    return l0;
-}
-
-static inline type_angles__series__Terms angles__series__both(uint64_t l1, type_angles__series__Terms l2, uint64_t l3, uint64_t l4)
-{
-    type_angles__series__Terms l0;
-    uint64_t l5;
-    uint64_t l6;
-    l5 = angles__series__rest(l1, l2.f0, l3);
-    l6 = angles__series__rest(l1, l2.f1, l4);
-    l0 = (type_angles__series__Terms){.f0 = l5, .f1 = l6};
-    return l0;
-}
-
-static inline uint64_t angles__series__last(uint64_t l1, uint64_t l2)
+static inline uint64_t angles__pair__arc_of(type_sphere__point__Grid l1, uint64_t l2)
 {
     uint64_t l0;
     uint64_t l3;
     uint64_t l4;
-    bool l5;
-    uint64_t l6;
-    l4 = (l1 * l2);
-    l3 = (l4 / UINT64_C(134217728));
-    l5 = (l3 < UINT64_C(67108864));
-    if (l5) {
-        l6 = (UINT64_C(67108864) - l3);
-    } else {
-        l6 = UINT64_C(0);
+    uint64_t l5;
+    switch (l1.tag) {
+    case 0: {
+        l4 = (l2 * UINT64_C(1073741824));
+        l3 = (l4 / UINT64_C(9167324722));
+        break;
     }
-    l0 = l6;
+    case 1: default: {
+        l5 = (l2 * UINT64_C(17179869184));
+        l3 = (l5 / UINT64_C(4583662361));
+        break;
+    }
+    }
+    l0 = l3;
     return l0;
 }
 
-static inline type_angles__series__Terms angles__series__series(uint64_t l1)
+static inline uint64_t angles__pair__square_of(type_sphere__point__Grid l1, uint64_t l2)
+{
+    uint64_t l0;
+    uint64_t l3;
+    uint64_t l4;
+    uint64_t l5;
+    uint64_t l6;
+    switch (l1.tag) {
+    case 0: {
+        l4 = (l2 * l2);
+        l3 = (l4 / UINT64_C(4891762658));
+        break;
+    }
+    case 1: default: {
+        l5 = (l2 * l2);
+        l6 = (l5 * UINT64_C(11));
+        l3 = (l6 / UINT64_C(1681543414));
+        break;
+    }
+    }
+    l0 = l3;
+    return l0;
+}
+
+static inline uint64_t angles__series__one(type_sphere__point__Grid l1)
+{
+    uint64_t l0;
+    uint64_t l2;
+    switch (l1.tag) {
+    case 0: {
+        l2 = UINT64_C(67108864);
+        break;
+    }
+    case 1: default: {
+        l2 = UINT64_C(2147483648);
+        break;
+    }
+    }
+    l0 = l2;
+    return l0;
+}
+
+static inline uint64_t angles__series__units(type_sphere__point__Grid l1, uint64_t l2)
+{
+    uint64_t l0;
+    uint64_t l3;
+    switch (l1.tag) {
+    case 0: {
+        l3 = (l2 / UINT64_C(67108864));
+        break;
+    }
+    case 1: default: {
+        l3 = (l2 / UINT64_C(2147483648));
+        break;
+    }
+    }
+    l0 = l3;
+    return l0;
+}
+
+static inline uint64_t angles__series__rest(type_sphere__point__Grid l1, uint64_t l2, uint64_t l3, uint64_t l4)
+{
+    uint64_t l0;
+    uint64_t l5;
+    uint64_t l6;
+    uint64_t l7;
+    uint64_t l8;
+    l5 = angles__series__one(l1);
+    l7 = (l2 * l3);
+    l8 = (l7 / l4);
+    l6 = angles__series__units(l1, l8);
+    l0 = (l5 - l6);
+    return l0;
+}
+
+static inline type_angles__series__Terms angles__series__both(type_sphere__point__Grid l1, uint64_t l2, type_angles__series__Terms l3, uint64_t l4, uint64_t l5)
 {
     type_angles__series__Terms l0;
-    type_angles__series__Terms l2;
-    type_angles__series__Terms l3;
+    uint64_t l6;
+    uint64_t l7;
+    l6 = angles__series__rest(l1, l2, l3.f0, l4);
+    l7 = angles__series__rest(l1, l2, l3.f1, l5);
+    l0 = (type_angles__series__Terms){.f0 = l6, .f1 = l7};
+    return l0;
+}
+
+static inline uint64_t angles__series__last(type_sphere__point__Grid l1, uint64_t l2, uint64_t l3)
+{
+    uint64_t l0;
+    uint64_t l4;
+    uint64_t l5;
+    uint64_t l6;
+    uint64_t l7;
+    bool l8;
+    uint64_t l9;
+    l4 = angles__series__one(l1);
+    l6 = (l2 * l3);
+    l7 = (l6 / UINT64_C(2));
+    l5 = angles__series__units(l1, l7);
+    l8 = (l5 < l4);
+    if (l8) {
+        l9 = (l4 - l5);
+    } else {
+        l9 = UINT64_C(0);
+    }
+    l0 = l9;
+    return l0;
+}
+
+static inline type_angles__series__Terms angles__series__series(type_sphere__point__Grid l1, uint64_t l2)
+{
+    type_angles__series__Terms l0;
+    uint64_t l3;
     type_angles__series__Terms l4;
     type_angles__series__Terms l5;
     type_angles__series__Terms l6;
     type_angles__series__Terms l7;
     type_angles__series__Terms l8;
     type_angles__series__Terms l9;
-    uint64_t l10;
-    uint64_t l11;
-    type_angles__series__Terms l12;
-    l12 = (type_angles__series__Terms){.f0 = UINT64_C(67108864), .f1 = UINT64_C(67108864)};
-    l2 = angles__series__both(l1, l12, UINT64_C(342), UINT64_C(306));
-    l3 = angles__series__both(l1, l2, UINT64_C(272), UINT64_C(240));
-    l4 = angles__series__both(l1, l3, UINT64_C(210), UINT64_C(182));
-    l5 = angles__series__both(l1, l4, UINT64_C(156), UINT64_C(132));
-    l6 = angles__series__both(l1, l5, UINT64_C(110), UINT64_C(90));
-    l7 = angles__series__both(l1, l6, UINT64_C(72), UINT64_C(56));
-    l8 = angles__series__both(l1, l7, UINT64_C(42), UINT64_C(30));
-    l9 = angles__series__both(l1, l8, UINT64_C(20), UINT64_C(12));
-    l10 = angles__series__rest(l1, l9.f0, UINT64_C(6));
-    l11 = angles__series__last(l1, l9.f1);
-    l0 = (type_angles__series__Terms){.f0 = l10, .f1 = l11};
+    type_angles__series__Terms l10;
+    type_angles__series__Terms l11;
+    uint64_t l12;
+    uint64_t l13;
+    type_angles__series__Terms l14;
+    l3 = angles__series__one(l1);
+    l14 = (type_angles__series__Terms){.f0 = l3, .f1 = l3};
+    l4 = angles__series__both(l1, l2, l14, UINT64_C(342), UINT64_C(306));
+    l5 = angles__series__both(l1, l2, l4, UINT64_C(272), UINT64_C(240));
+    l6 = angles__series__both(l1, l2, l5, UINT64_C(210), UINT64_C(182));
+    l7 = angles__series__both(l1, l2, l6, UINT64_C(156), UINT64_C(132));
+    l8 = angles__series__both(l1, l2, l7, UINT64_C(110), UINT64_C(90));
+    l9 = angles__series__both(l1, l2, l8, UINT64_C(72), UINT64_C(56));
+    l10 = angles__series__both(l1, l2, l9, UINT64_C(42), UINT64_C(30));
+    l11 = angles__series__both(l1, l2, l10, UINT64_C(20), UINT64_C(12));
+    l12 = angles__series__rest(l1, l2, l11.f0, UINT64_C(6));
+    l13 = angles__series__last(l1, l2, l11.f1);
+    l0 = (type_angles__series__Terms){.f0 = l12, .f1 = l13};
     return l0;
 }
 
-static inline double angles__pair__unit(uint64_t l1)
+static inline double angles__pair__unit(type_sphere__point__Grid l1, uint64_t l2)
 {
     double l0;
-    double l2;
-    l2 = (double)l1;
-    l0 = (l2 * (0x1.0000000000000p-26));
+    double l3;
+    double l4;
+    double l5;
+    switch (l1.tag) {
+    case 0: {
+        l4 = (double)l2;
+        l3 = (l4 * (0x1.0000000000000p-26));
+        break;
+    }
+    case 1: default: {
+        l5 = (double)l2;
+        l3 = (l5 * (0x1.0000000000000p-31));
+        break;
+    }
+    }
+    l0 = l3;
     return l0;
 }
 
-static inline type_angles__pair__SinCos angles__pair__sin_cos(uint64_t l1)
+static inline type_angles__pair__SinCos angles__pair__sin_cos(type_sphere__point__Grid l1, uint64_t l2)
 {
     type_angles__pair__SinCos l0;
-    uint64_t l2;
     uint64_t l3;
     type_angles__series__Terms l4;
     uint64_t l5;
@@ -8644,17 +8968,15 @@ static inline type_angles__pair__SinCos angles__pair__sin_cos(uint64_t l1)
     uint64_t l8;
     double l9;
     double l10;
-    l6 = (l1 < UINT64_C(900000000));
+    l6 = (l2 < UINT64_C(900000000));
     if (l6) {
-        l8 = (l1 * l1);
-        l2 = (l8 / UINT64_C(4891762658));
-        l8 = (l1 * UINT64_C(1073741824));
-        l3 = (l8 / UINT64_C(9167324722));
-        l4 = angles__series__series(l2);
+        l3 = angles__pair__arc_of(l1, l2);
+        l8 = angles__pair__square_of(l1, l2);
+        l4 = angles__series__series(l1, l8);
         l8 = (l3 * l4.f0);
-        l5 = (l8 / UINT64_C(67108864));
-        l9 = angles__pair__unit(l5);
-        l10 = angles__pair__unit(l4.f1);
+        l5 = angles__series__units(l1, l8);
+        l9 = angles__pair__unit(l1, l5);
+        l10 = angles__pair__unit(l1, l4.f1);
         l7 = (type_angles__pair__SinCos){.f0 = l9, .f1 = l10};
     } else {
         l7 = (type_angles__pair__SinCos){.f0 = (0x1.0000000000000p+0), .f1 = (0x0.0p+0)};
@@ -8663,7 +8985,7 @@ static inline type_angles__pair__SinCos angles__pair__sin_cos(uint64_t l1)
     return l0;
 }
 
-static inline uint64_t angles__pair__grid(double l1, double l2)
+static inline uint64_t angles__pair__coarse_number(double l1, double l2)
 {
     uint64_t l0;
     uint64_t l3;
@@ -8688,54 +9010,114 @@ static inline uint64_t angles__pair__grid(double l1, double l2)
     return l0;
 }
 
-static inline type_angles__point__GridNumbers angles__point__in_range(bool l1, uint64_t l2, bool l3, uint64_t l4)
+static inline uint64_t angles__pair__fine_size(double l1)
+{
+    uint64_t l0;
+    double l2;
+    l2 = (l1 * (0x1.0000000000000p+31));
+    l0 = (uint64_t)l2;
+    return l0;
+}
+
+static inline uint64_t angles__pair__fine_number(double l1, double l2)
+{
+    uint64_t l0;
+    uint64_t l3;
+    uint64_t l4;
+    uint64_t l5;
+    uint64_t l6;
+    bool l7;
+    uint64_t l8;
+    l5 = angles__pair__fine_size(l1);
+    l6 = angles__pair__fine_size(l2);
+    l3 = (l5 * l6);
+    l5 = (l3 + UINT64_C(34359738368));
+    l4 = (l5 / UINT64_C(68719476736));
+    l7 = (l4 < UINT64_C(67108864));
+    if (l7) {
+        l8 = l4;
+    } else {
+        l8 = UINT64_C(67108864);
+    }
+    l0 = l8;
+    return l0;
+}
+
+static inline uint64_t angles__pair__product(type_sphere__point__Grid l1, double l2, double l3)
+{
+    uint64_t l0;
+    uint64_t l4;
+    switch (l1.tag) {
+    case 0: {
+        l4 = angles__pair__coarse_number(l2, l3);
+        break;
+    }
+    case 1: default: {
+        l4 = angles__pair__fine_number(l2, l3);
+        break;
+    }
+    }
+    l0 = l4;
+    return l0;
+}
+
+static inline type_angles__point__GridNumbers angles__point__in_range(type_sphere__point__Grid l1, bool l2, uint64_t l3, bool l4, uint64_t l5)
 {
     type_angles__point__GridNumbers l0;
-    type_angles__pair__SinCos l5;
     type_angles__pair__SinCos l6;
+    type_angles__pair__SinCos l7;
+    uint64_t l8;
+    uint32_t l9;
+    bool l10;
+    uint32_t l11;
+    uint64_t l12;
+    uint32_t l13;
+    uint64_t l14;
+    l8 = angles__point__quarter_of(l3);
+    l6 = angles__pair__sin_cos(l1, l8);
+    l7 = angles__pair__sin_cos(l1, l5);
+    l10 = (UINT64_C(900000000) < l3);
+    l8 = angles__pair__product(l1, l6.f1, l7.f1);
+    l9 = angles__point__signed(l10, l8);
+    l12 = angles__pair__product(l1, l6.f0, l7.f1);
+    l11 = angles__point__signed(l2, l12);
+    l14 = angles__pair__product(l1, l7.f0, (0x1.0000000000000p+0));
+    l13 = angles__point__signed(l4, l14);
+    l0 = (type_angles__point__GridNumbers){.f0 = l9, .f1 = l11, .f2 = l13};
+    return l0;
+}
+
+static inline type_angles__point__GridNumbers angles__point__numbers_on(type_sphere__point__Grid l1, type_angles__point__Position l2)
+{
+    type_angles__point__GridNumbers l0;
+    uint32_t l3;
+    uint32_t l4;
+    bool l5;
+    bool l6;
     uint64_t l7;
-    uint32_t l8;
-    bool l9;
-    uint32_t l10;
-    uint64_t l11;
-    uint32_t l12;
-    uint64_t l13;
-    l7 = angles__point__quarter_of(l2);
-    l5 = angles__pair__sin_cos(l7);
-    l6 = angles__pair__sin_cos(l4);
-    l9 = (UINT64_C(900000000) < l2);
-    l7 = angles__pair__grid(l5.f1, l6.f1);
-    l8 = angles__point__signed(l9, l7);
-    l11 = angles__pair__grid(l5.f0, l6.f1);
-    l10 = angles__point__signed(l1, l11);
-    l13 = angles__pair__grid(l6.f0, (0x1.0000000000000p+0));
-    l12 = angles__point__signed(l3, l13);
-    l0 = (type_angles__point__GridNumbers){.f0 = l8, .f1 = l10, .f2 = l12};
+    bool l8;
+    uint64_t l9;
+    l5 = angles__point__is_outside(l2);
+    if (l5) {
+        l0 = (type_angles__point__GridNumbers){.f0 = UINT32_C(0), .f1 = UINT32_C(0), .f2 = UINT32_C(0)};
+        return l0;
+    }
+    l3 = l2.f0;
+    l4 = l2.f1;
+    l6 = angles__point__is_negative(l3);
+    l7 = angles__point__size(l3);
+    l8 = angles__point__is_negative(l4);
+    l9 = angles__point__size(l4);
+    l0 = angles__point__in_range(l1, l6, l7, l8, l9);
     return l0;
 }
 
 static inline type_angles__point__GridNumbers angles__point__grid_numbers(type_angles__point__Position l1)
 {
     type_angles__point__GridNumbers l0;
-    uint32_t l2;
-    uint32_t l3;
-    bool l4;
-    bool l5;
-    uint64_t l6;
-    bool l7;
-    uint64_t l8;
-    l4 = angles__point__is_outside(l1);
-    if (l4) {
-        l0 = (type_angles__point__GridNumbers){.f0 = UINT32_C(0), .f1 = UINT32_C(0), .f2 = UINT32_C(0)};
-        return l0;
-    }
-    l2 = l1.f0;
-    l3 = l1.f1;
-    l5 = angles__point__is_negative(l2);
-    l6 = angles__point__size(l2);
-    l7 = angles__point__is_negative(l3);
-    l8 = angles__point__size(l3);
-    l0 = angles__point__in_range(l5, l6, l7, l8);
+    type_sphere__point__Grid l2;
+    l2 = (type_sphere__point__Grid){.tag = 0};
+    l0 = angles__point__numbers_on(l2, l1);
     return l0;
 }
 
