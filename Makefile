@@ -3,12 +3,14 @@
 # make test       the gate: the layout, rt ci, the host tests; ends with rt's 'N passed, 0 failed'
 # make check      the same
 # make lib        target/staticlib/libspargolutta.a, and target/sharedlib/libspargolutta.so made of it
+# make lib-c      the same two from portable/spargolutta.c, in target/portable: a C compiler does, no Rattle is needed
 # make bin        target/bin/zone_judge, the program
 # make install    copies what is built: PREFIX (/usr/local), LIBDIR (PREFIX/lib), all below DESTDIR
 # make uninstall  removes what 'make install' with the same variables put there
 # make host-test  the host tests alone
 # make bench      the library and the program against Rust and C: times, instructions, docs/feed-time.svg
 # make fuzz       libFuzzer over all calls against the host tests' second implementation, for SECONDS=60 seconds
+# make c          portable/spargolutta.c, the library as one C file, made anew from the proved crates
 # make numbers    share/spargolutta/numbers.tsv, the table of numbers for other languages
 # make fmt        the layout that the gate asks for
 # make clean      removes target/; the next build proves every crate again
@@ -47,6 +49,8 @@ PROVE = $(TOOLCHAIN); log=$$(mktemp); $(1) 2>&1 | tee "$$log" | tests/progress $
 UNDER = $(shell awk -v top=$(1) '/^[a-z]/ { sub(":", "", $$1); for (i = 2; i <= NF; i++) under[$$1] = under[$$1] " " $$i; \
 	listed[$$1] } function mark(c,  i, n, cs) { if (!(c in listed) || c in seen) return; seen[c]; k++; \
 	n = split(under[c], cs, " "); for (i = 1; i <= n; i++) mark(cs[i]) } END { mark(top); print k }' crates.txt)
+
+include portable/portable.mk
 
 lib: $(ARCHIVE) $(SHARED)
 
