@@ -34,9 +34,9 @@ class Feature:
     index: int = 0
 
 
-def refuse(where: str, place: int = 0) -> Refused:
-    """30, with what is wrong in words."""
-    return Refused(NOT_A_TEXT, place, 0, where)
+def refuse(where: str, place: Optional[int] = None) -> Refused:
+    """30, with what is wrong in words, and the byte if one is to blame."""
+    return Refused(NOT_A_TEXT, place or 0, 0, where, "none" if place is None else None)
 
 
 def _constant(name: str) -> Any:
@@ -76,7 +76,7 @@ def parse(text: bytes, codec: str = "utf-8") -> Any:
 
 
 def features(value: Any) -> List[Feature]:
-    """The features of a GeoJSON value that have polygons; those that have none are noted on the next one or the last."""
+    """The features of a GeoJSON value that have polygons; those that have none are noted on the first."""
     found, without = [], []
     for index, (member, inherited) in enumerate(_unwrapped(value)):
         feature = Feature(properties=inherited, index=index)

@@ -9,7 +9,7 @@ from .angles import Point
 
 
 class Pair(NamedTuple):
-    """Two vertices and the square of their distance: vertex `here` of ring `ring`, vertex `there` of the ring to join."""
+    """Two vertices and the square of their distance: `here` of ring `ring`, `there` of the ring to join."""
 
     square: int
     ring: int

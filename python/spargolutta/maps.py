@@ -12,7 +12,7 @@ from .angles import COARSE, UNITS, Point, Position
 from .library import NAME_MOST, VERTICES_MOST, lib
 from .numbers import SIDES_SHARE, Refused
 from .rings import Ring
-from .zone import CODECS, UTF8, Zone
+from .zone import CODECS, UTF8, Zone, where_in_vertices
 
 BAD_LIST, SHEET_LENGTH = 10, 22
 
@@ -143,11 +143,18 @@ def _strict_text(ring: Ring) -> bytes:
 def _maker(outline: Outline, number: int, name: bytes, options: Options) -> known.Make:
     """What makes the zone for a known point."""
     ring = outline.positions
-    if ring is not None and options.grid == COARSE and rings.longest_side([ring]) <= UNITS:
-        text = _strict_text(ring)
-        return lambda point: Zone.read_text(text, point, number, name, options.charset)
     vertices = angles.in_bytes([number for point in outline.points for number in point])
-    return lambda point: Zone.write(vertices, point, number, name, options.grid, options.charset)
+    if ring is None or options.grid != COARSE or rings.longest_side([ring]) > UNITS:
+        return lambda point: Zone.write(vertices, point, number, name, options.grid, options.charset)
+    text = _strict_text(ring)
+
+    def imported(point: Point) -> Zone:
+        try:
+            return Zone.read_text(text, point, number, name, options.charset)
+        except Refused as refused:
+            refused.where = where_in_vertices(vertices, refused.number, refused.place)
+            raise
+    return imported
 
 
 def _name_bytes(name: str, charset: int) -> bytes:
@@ -156,12 +163,13 @@ def _name_bytes(name: str, charset: int) -> bytes:
     except UnicodeEncodeError:
         raise NotUnderstood(f"name {name[:60]!r} has characters that {CODECS[charset]} lacks") from None
     if not 1 <= len(encoded) <= NAME_MOST:
-        raise Refused(SHEET_LENGTH, 0, 0, f"a name of {len(encoded)} bytes: 1 to {NAME_MOST} are allowed")
+        raise Refused(SHEET_LENGTH, 0, 0, f"a name of {len(encoded)} bytes: 1 to {NAME_MOST} are allowed", "none")
     return encoded
 
 
 def zone_of(feature: geojson.Feature, number: int, name: str, options: Options) -> Zone:
-    """The zone of a feature; its notes say what was changed. Raises Refused, NotUnderstood, WrongKnown, FarSideInside."""
+    """The zone of a feature, with notes of what was changed. Raises Refused, NotUnderstood, WrongKnown or
+    FarSideInside."""
     notes = list(feature.notes)
     encoded = _name_bytes(name, options.charset)
     drawn = _simplified(_positions(feature, notes), options.simplify, notes)

@@ -51,10 +51,11 @@ class Verdict(NamedTuple):
 class Refused(ValueError):
     """A refusal by the library: number, place, count, what kind of place it is, and what the number means."""
 
-    def __init__(self, number: int, place: int = 0, count: int = 0, where: Optional[str] = None) -> None:
+    def __init__(self, number: int, place: int = 0, count: int = 0, where: Optional[str] = None,
+                 kind: Optional[str] = None) -> None:
         self.number, self.place, self.count = number, place, count
-        self.kind, self.meaning, self.where = place_kind(number), meaning(number), where
-        super().__init__(number, place, count, where)
+        self.kind, self.meaning, self.where = kind or place_kind(number), meaning(number), where
+        super().__init__(number, place, count, where, kind)
 
     def __str__(self) -> str:
         return f"{self.number}, {self.meaning}" + (f", {self.place_in_words()}" if self.place_in_words() else "")
@@ -66,5 +67,5 @@ class Refused(ValueError):
             parts = [f"sides {self.place} and {self.count}"]
         return ", ".join(parts + ([self.where] if self.where else []))
 
-    def __reduce__(self) -> Tuple[type, Tuple[int, int, int, Optional[str]]]:
-        return Refused, (self.number, self.place, self.count, self.where)
+    def __reduce__(self) -> Tuple[type, Tuple[int, int, int, Optional[str], str]]:
+        return Refused, (self.number, self.place, self.count, self.where, self.kind)

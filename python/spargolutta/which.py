@@ -62,7 +62,7 @@ class Judge:
         number = lib.spg_point_number(*position)
         if number != DONE:
             lon, lat = map(angles.to_text, position)
-            self._report.refuse(at, stop_text(*stop, Refused(number, 0, 0, f"longitude {lon}, latitude {lat}")))
+            self._report.refuse(at, stop_text(*stop, Refused(number, 0, 0, f"longitude {lon}, latitude {lat}", "none")))
             return
         for i, zone in enumerate(self._book.zones):
             if refused >> i & 1:

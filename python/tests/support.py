@@ -1,9 +1,10 @@
-"""What the tests share: the repository's folders, the command in a process of its own, the even-odd rule in fractions."""
+"""What the tests share: the repository's folders, the command in a process of its own, the even-odd rule exactly."""
 import json
 import os
 import subprocess
 import sys
 from fractions import Fraction
+from math import cos, hypot, radians
 from pathlib import Path
 from typing import Any, List, Sequence, Tuple
 
@@ -43,34 +44,22 @@ def _rings(geometry: Any) -> List[List[Place]]:
 
 
 def is_inside(rings: Sequence[Sequence[Place]], p: Place) -> bool:
-    """The even-odd rule over closed rings: how often the half-line to the east meets them."""
+    """The even-odd rule over closed rings, exactly: how often the half-line to the east meets them."""
     inside = False
     for ring in rings:
         for (ax, ay), (bx, by) in zip(ring, ring[1:]):
-            if (ay <= p[1]) != (by <= p[1]) and p[0] < ax + (p[1] - ay) * (bx - ax) / (by - ay):
+            if (ay <= p[1]) != (by <= p[1]) and ((p[0] - ax) * (by - ay) < (p[1] - ay) * (bx - ax)) == (by > ay):
                 inside = not inside
     return inside
 
 
-def is_near(rings: Sequence[Sequence[Place]], p: Place, lon: Fraction, lat: Fraction) -> bool:
-    """Whether the outline comes as near as these parts of a degree: each side widened to a box around it is asked."""
+def distance(rings: Sequence[Sequence[Tuple[float, float]]], p: Tuple[float, float]) -> float:
+    """About how far the outline is, in degrees of latitude: to leave out what is too near to compare."""
+    scale, least = max(1e-4, cos(radians(p[1]))), 1e9
     for ring in rings:
-        for a, b in zip(ring, ring[1:]):
-            if _distance_within(a, b, p, lon, lat):
-                return True
-    return False
-
-
-def _distance_within(a: Place, b: Place, p: Place, lon: Fraction, lat: Fraction) -> bool:
-    """Whether p, in units of the tolerances, is within 1 of the side, exactly by squares."""
-    ax, ay = (a[0] - p[0]) / lon, (a[1] - p[1]) / lat
-    dx, dy = (b[0] - a[0]) / lon, (b[1] - a[1]) / lat
-    size = dx * dx + dy * dy
-    if size == 0:
-        return ax * ax + ay * ay <= 1
-    along = -(ax * dx + ay * dy)
-    if along <= 0:
-        return ax * ax + ay * ay <= 1
-    if along >= size:
-        return (ax + dx) ** 2 + (ay + dy) ** 2 <= 1
-    return (ax * dy - ay * dx) ** 2 <= size
+        for (ax, ay), (bx, by) in zip(ring, ring[1:]):
+            ux, uy, dx, dy = (ax - p[0]) * scale, ay - p[1], (bx - ax) * scale, by - ay
+            size = dx * dx + dy * dy
+            along = max(0.0, min(1.0, -(ux * dx + uy * dy) / size)) if size else 0.0
+            least = min(least, hypot(ux + along * dx, uy + along * dy))
+    return least
