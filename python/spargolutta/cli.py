@@ -87,6 +87,14 @@ def parser() -> argparse.ArgumentParser:
     _add_stop_options(which)
     _add_map_options(which)
 
+    draw = _verb(parsers, "draw", verbs.draw_zones, "make a page to look at zones and stops, or an SVG picture",
+                 "harbours.book gtfs/stops.txt -o map.html")
+    draw.add_argument("zones", metavar="ZONES", nargs="+", help="as for which; the last may be a file of stops")
+    draw.add_argument("-o", dest="output", metavar="FILE", required=True, help="map.html or map.svg")
+    _add_charset(draw, "the stops and of names of zones made here")
+    _add_stop_options(draw)
+    _add_map_options(draw)
+
     _add_sheet_verbs(parsers)
     return top
 

@@ -6,14 +6,14 @@ from dataclasses import replace
 from pathlib import Path
 from typing import List, Sequence
 
-from . import angles, describe, inputs, which
+from . import angles, describe, draw, inputs, svg, which
 from .angles import Position
 from .book import Book
 from .inputs import Loaded
 from .maps import Options
 from .numbers import Refused
 from .report import Failure, Report, why_not
-from .stops import Wanted
+from .stops import Stops, Wanted
 from .zone import CHARSETS, CODECS, UTF8
 
 
@@ -141,6 +141,27 @@ def which_zones(args: argparse.Namespace, report: Report) -> None:
     if not found:
         raise Failure(args.zones[0], "no zone to judge by")
     which.run([loaded.zone for loaded in found], args.stops, wanted_of(args), args.all, args.json, report)
+
+
+def draw_zones(args: argparse.Namespace, report: Report) -> None:
+    """A page or a picture of zones and stops; the last file is one of stops if it is no zone."""
+    paths, last = list(args.zones), args.zones[-1]
+    data = b"\x01" if os.path.isdir(last) or last == "-" else inputs.read(last)[:100]
+    stops_path = None if inputs.is_map(data) or inputs.is_sheet(data) else paths.pop()
+    found = [loaded.zone for loaded in inputs.zones(paths, options_of(args), report)]
+    if not found:
+        raise Failure(last, "no zone to draw")
+    stops = []
+    if stops_path is not None:
+        with which.open_stops(stops_path) as file:
+            read = Stops(file, stops_path, wanted_of(args), report)
+            stops = draw.stop_data(found, read, stops_path, report)
+    if args.output.endswith(".svg"):
+        write(args.output, svg.picture(found, stops))
+        return
+    if draw.library_as_wasm() is None:
+        report.say(args.output, "without the library as WebAssembly: the page shows the verdicts on its stops alone")
+    write(args.output, draw.page(found, stops))
 
 
 def wanted_of(args: argparse.Namespace) -> Wanted:

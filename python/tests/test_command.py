@@ -125,7 +125,7 @@ class Sheets(Files):
         done = run("compare", old, new)
         self.assertIn("number: 1 before, 9 now\n", done.stdout)
         self.assertIn("grid: coarse before, fine now\n", done.stdout)
-        self.assertRegex(done.stdout, "ring: 12 vertices before, 12 now; first difference at vertex 0: 23\\.6[0-9]* east")
+        self.assertRegex(done.stdout, "ring: 12 vertices before, 12 now; first difference at vertex 0: 23\\.6[0-9]* ")
         self.assertRegex(run("compare", old, moved).stdout, "^same ring, started elsewhere: vertex 9 of the new one is "
                          "vertex 0 of the old one, 23\\.6[0-9]* east, 37\\.92[0-9]* north\n$")
 
@@ -139,7 +139,7 @@ class Ends(Files):
     def test_usage(self) -> None:
         for words in ((), ("fly",), ("zone",), ("zone", "x", "-o", "y", "--grid", "rough")):
             self.assertEqual(run(*words).returncode, 2)
-        for verb in ("zone", "which", "show", "check", "compare", "book"):
+        for verb in ("zone", "which", "show", "check", "compare", "book", "draw"):
             done = run(verb, "--help")
             self.assertEqual(done.returncode, 0)
             self.assertIn(f"example:\n  spargolutta {verb} ", done.stdout)

@@ -43,7 +43,8 @@ TOLD: Dict[str, List[str]] = {
     "by-hand-bom.geojson": ["known point found: 5.3194444 east, 58.1388888 north"],
     "by-hand-crs-null.geojson": ["known point found: 5.5 east, 58.2777777 north"],
     "by-hand-crossing.geojson": ["a ring crosses or touches itself: its sides 0 and 2, near 11.9999837 east, "
-                                 "54.9999784 north; inside is by the even-odd rule", "known point found: 12.05 east, 55.1 north"],
+                                 "54.9999784 north; inside is by the even-odd rule",
+                                 "known point found: 12.05 east, 55.1 north"],
     "by-hand-date-line-hole.geojson": [
         "vertices added along the cut at 180 degrees, so that its two sides cancel: 7",
         "vertices added on sides of over one degree, straight in degrees: 2, the longest side has 2 degrees",
