@@ -141,7 +141,7 @@ class Stops:
         except IndexError:
             why = f"{len(row)} fields, and longitude or latitude is not among them"
         except ValueError:
-            lon, lat = row[columns.lon].strip(), row[columns.lat].strip()
+            lon, lat = (row[at].strip() if at < len(row) else "" for at in (columns.lon, columns.lat))
             kind = row[columns.kind].strip() if columns.kind is not None and columns.kind < len(row) else ""
             if not lon and not lat and kind in _WITHOUT_PLACE:
                 self.without_place += 1
