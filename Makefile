@@ -1,6 +1,7 @@
 # make            this list
-# make run        the program, built and run on document 01's octant: four lines
-# make test       the gate: the layout, rt ci, the host tests; ends with rt's 'N passed, 0 failed'
+# make run        the main job on the sample, from maps to verdicts and a page: by a C compiler and Python alone
+# make octant     the proved program, built and run on document 01's octant: four lines
+# make test       the gate: the layout, rt ci, the host tests, the command's; ends with rt's 'N passed, 0 failed'
 # make check      the same
 # make lib        target/staticlib/libspargolutta.a, and target/sharedlib/libspargolutta.so made of it
 # make lib-c      the same two from portable/spargolutta.c, in target/portable: a C compiler does, no Rattle is needed
@@ -8,6 +9,7 @@
 # make install    copies what is built: PREFIX (/usr/local), LIBDIR (PREFIX/lib), all below DESTDIR
 # make uninstall  removes what 'make install' with the same variables put there
 # make host-test  the host tests alone
+# make tool-test  the tests of the command, its page and its package alone
 # make bench      the library and the program against Rust and C: times, instructions, docs/feed-time.svg
 # make fuzz       libFuzzer over all calls against the host tests' second implementation, for SECONDS=60 seconds
 # make c          portable/spargolutta.c, the library as one C file, made anew from the proved crates
@@ -16,10 +18,11 @@
 # make clean      removes target/; the next build proves every crate again
 SHELL := /bin/bash
 .SHELLFLAGS := -o pipefail -ec
-.PHONY: help run test check lib bin install uninstall host-test bench fuzz numbers fmt clean
+.PHONY: help test check lib bin install uninstall host-test bench fuzz numbers fmt clean
 # rt and cargo use all cores by themselves.
 .NOTPARALLEL:
 MAKEFLAGS += --no-builtin-rules
+comma := ,
 .DELETE_ON_ERROR:
 
 help:
@@ -51,6 +54,11 @@ UNDER = $(shell awk -v top=$(1) '/^[a-z]/ { sub(":", "", $$1); for (i = 2; i <= 
 	n = split(under[c], cs, " "); for (i = 1; i <= n; i++) mark(cs[i]) } END { mark(top); print k }' crates.txt)
 
 include portable/portable.mk
+PYTHON ?= python3
+# The library as WebAssembly for the command's page, where clang and wasm-ld are there.
+PAGE_WASM := $(if $(and $(shell command -v clang),$(shell command -v wasm-ld)),target/page/spargolutta.wasm)
+PAGE_CALLS := points_number judge_number judge_place judge_count meaning_text
+include python/python.mk
 
 lib: $(ARCHIVE) $(SHARED)
 
@@ -70,9 +78,6 @@ $(SHARED): $(ARCHIVE) packaging/spargolutta.map include/spargolutta.h
 	@mkdir -p $(@D)
 	@cc -shared -o $@ -Wl,-soname,libspargolutta.so.$(MAJOR) -Wl,--version-script=packaging/spargolutta.map \
 		-Wl,-z,defs -Wl,-z,text -Wl,--whole-archive $(ARCHIVE) -Wl,--no-whole-archive
-
-run: bin
-	@cd sample/octant && ../../$(PROGRAM) < queries
 
 clean:
 	rm -rf target
@@ -101,7 +106,7 @@ test check:
 	rt fmt --check; \
 	n=$$(cat <(grep '^[a-z]' crates.txt) <(ls crates/*/must-fail/*.edit) | wc -l); \
 	rt ci | tee "$$log" | tests/progress $$n || { echo "The whole log: $$log"; tail -n 40 "$$log"; exit 1; }; \
-	$(MAKE) --no-print-directory host-test; \
+	$(MAKE) --no-print-directory host-test octant-check tool-test; \
 	tail -n 1 "$$log"; rm "$$log"
 
 host-test: lib bin

@@ -88,11 +88,17 @@ fn expected(lib: &str) -> BTreeMap<String, String> {
         (format!("{lib}/cmake/spargolutta/spargolutta-config.cmake"), "644"),
         (format!("{lib}/cmake/spargolutta/spargolutta-config-version.cmake"), "644"),
         ("bin/zone_judge".to_string(), "755"),
+        ("bin/spargolutta".to_string(), "755"),
+        ("share/man/man1/spargolutta.1".to_string(), "644"),
         ("share/man/man1/zone_judge.1".to_string(), "644"),
         ("share/man/man3/spargolutta.3".to_string(), "644"),
     ];
     let examples = tree(&repository("examples")).into_keys();
     files.extend(examples.map(|name| (format!("share/spargolutta/examples/{name}"), "644")));
+    let package = tree(&repository("python/spargolutta")).into_keys();
+    let wasm = repository("target/page/spargolutta.wasm").exists().then(|| "spargolutta.wasm".to_string());
+    let sources = package.filter(|name| [".py", ".js", ".html", ".typed"].iter().any(|end| name.ends_with(end)));
+    files.extend(sources.chain(wasm).map(|name| (format!("share/spargolutta/python/spargolutta/{name}"), "644")));
     let numbers = "share/spargolutta/numbers.tsv";
     files.extend(repository(numbers).exists().then(|| (numbers.to_string(), "644")));
     let mut expected: BTreeMap<String, String> =
@@ -160,7 +166,7 @@ fn install_messages() {
 fn install_unbuilt() {
     let scratch = scratch("install-unbuilt");
     let tree = scratch.path("tree");
-    let parts = ["Makefile", "packaging", "include"].map(repository);
+    let parts = ["Makefile", "packaging", "include", "portable", "python"].map(repository);
     fs::create_dir(&tree).expect("folder");
     output_of(command("cp", ["-r"]).args(parts).arg(&tree), &[]);
     let refusal = scratch.refusal(["-C", &tree, "install", "PREFIX=/nowhere", "DESTDIR="]);

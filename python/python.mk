@@ -1,0 +1,26 @@
+# The command, its page and its tests, for the Makefile above.
+.PHONY: run octant octant-check tool-test
+
+# The main job on the sample, from maps to verdicts and a page: by a C compiler and Python alone. With clang and wasm-ld
+# the library is in the page too.
+run: $(C_LIB)/libspargolutta.so $(PAGE_WASM)
+	@SPARGOLUTTA_LIBRARY='$(CURDIR)/$<' sample/run
+
+# The proved program on document 01's octant.
+octant: bin
+	@cd crates/zone_judge/data && ../../../$(PROGRAM) < ../stdin
+
+octant-check: bin
+	@diff <($(MAKE) --no-print-directory octant) <(printf '%s\n' '1 0 0' '3 0 0' '2 0 1' '18 0 0')
+
+# No package is needed: where numpy or Chromium is missing, a line says so. FUZZ is for how many seconds mutated samples
+# are tried.
+FUZZ ?= 60
+tool-test: lib $(PAGE_WASM)
+	@cd python && SPARGOLUTTA_LIBRARY='$(CURDIR)/$(SHARED)' FUZZ=$(FUZZ) $(PYTHON) -m unittest discover -s tests -t .
+
+$(PAGE_WASM): $(C_FILE) include/spargolutta.h
+	@mkdir -p $(@D)
+	@clang --target=wasm32 -std=c99 -O2 -ffreestanding -nostdlib -mbulk-memory -Iinclude $(C_FILE) -o $@ \
+		$(addprefix -Wl$(comma),--no-entry --stack-first -zstack-size=262144 --gc-sections --strip-all \
+		--export=__heap_base $(addprefix --export=spg_,$(PAGE_CALLS)))

@@ -1,0 +1,7 @@
+"""`python3 -m spargolutta`."""
+import sys
+
+from .cli import main
+
+if __name__ == "__main__":
+    sys.exit(main())
