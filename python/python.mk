@@ -8,7 +8,7 @@ run: $(C_LIB)/libspargolutta.so $(PAGE_WASM)
 
 # The proved program on document 01's octant.
 octant: bin
-	@cd crates/zone_judge/data && ../../../$(PROGRAM) < ../stdin
+	@cd sample/octant && ../../$(PROGRAM) < queries
 
 octant-check: bin
 	@diff <($(MAKE) --no-print-directory octant) <(printf '%s\n' '1 0 0' '3 0 0' '2 0 1' '18 0 0')
