@@ -106,6 +106,7 @@ test check:
 	rt fmt --check; \
 	n=$$(cat <(grep '^[a-z]' crates.txt) <(ls crates/*/must-fail/*.edit) | wc -l); \
 	rt ci | tee "$$log" | tests/progress $$n || { echo "The whole log: $$log"; tail -n 40 "$$log"; exit 1; }; \
+	tests/edits; \
 	$(MAKE) --no-print-directory host-test octant-check tool-test; \
 	tail -n 1 "$$log"; rm "$$log"
 
