@@ -120,7 +120,7 @@ module _ (limit : ℕ) (vs : List ℤ) (X Y P : Point) (h : numberOf (optionalAn
   unfolding optionalAnswerOf
   answered = subst (λ c. numberOf (answerAfter c (answerOf limit vs (judgeFrom X Y P) P)) ≤ 3) first-passed h
 
-  query-on-grid : queryCheck limit P ≡ Passed
+  pub query-on-grid : queryCheck limit P ≡ Passed
   unfolding answerOf judgeCheck
   query-on-grid =
       let U = judgeFrom X Y P in
@@ -128,7 +128,7 @@ module _ (limit : ℕ) (vs : List ℤ) (X Y P : Point) (h : numberOf (optionalAn
       (judge-numbered Late limit vs list-late (λ n l m. omega arith) U (omega arith) (omega arith) P) answered in
       then-passed (queryCheck limit P) (farCheck U P) (then-passed (acceptCheck limit vs U) _ judged .1) .0
 
-  not-far : numberOf (optionalAnswerOf limit vs X Y P) ≡ 18 → ⊥
+  pub not-far : numberOf (optionalAnswerOf limit vs X Y P) ≡ 18 → ⊥
   not-far e = larger (numberOf (optionalAnswerOf limit vs X Y P)) h e
     where
       larger : (n : ℕ) → n ≤ 3 → n ≡ 18 → ⊥
