@@ -261,9 +261,8 @@ SPG_PURE uint32_t spg_judge_count(const uint8_t *sheet, size_t sheet_len, int32_
  * turn(A,B,P) < 0 < turn(A,B,X), added up over all sides; 0 for boundary and refusals. It is odd exactly when the count
  * is, and reversing the list of vertices negates it.
  *
- * It is good for drawing: it is the winding of document 003, how many times more the outline goes round P than round X,
- * counterclockwise as seen from outside the globe. The verdict does not use it: inside and outside go by the count
- * alone. A feed's results do not have it.
+ * It is for drawing, which wants the winding that document 003 speaks of; what is proved of it is said above. The
+ * verdict does not use it: inside and outside go by the count alone. A feed's results do not have it.
  */
 SPG_PURE int32_t spg_judge_sum(const uint8_t *sheet, size_t sheet_len, int32_t x, int32_t y, int32_t z);
 /*

@@ -15,7 +15,6 @@ use Rattle.positions.specs.declared.grammar.Reading.the-variants.{Whole,
 use Rattle.positions.specs.Text.{nextOf, start, pickReading, read}
 use Rattle.positions.specs.Claims.{IsText, Longest, LongestBeginning}
 use Rattle.positions.proofs.Viable.{alive, whole, only-alive, finish, after, completes, completes-in-bytes}
-use Rattle.positions.proofs.Viable.{start-reached}
 
 abbrev ended : Bool → Bool → ℕ → Reading
 ended a b i = pickReading a Whole (pickReading b Whole (Dead i))
@@ -136,8 +135,8 @@ longest-beginning text i e =
     record {
       inside = let h = d .inside in omega arith;
       rest = finish (after start p);
-      bytes = completes-in-bytes p start start-reached live;
-      begins = all-read (p ++ finish (after start p)) ∙ to-whole _ start 0 (completes p start start-reached live);
+      bytes = completes-in-bytes p live;
+      begins = all-read (p ++ finish (after start p)) ∙ to-whole _ start 0 (completes p live);
       no-more = λ more h t.
           (rw is at (d .behind)) h
           (only-alive (take (suc i) text) more start

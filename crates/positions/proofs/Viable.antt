@@ -1,5 +1,7 @@
 -- Every state that is not dead can still be completed, so the first dead byte ends the longest beginning that a text
--- can have.
+-- can have. Defined: alive, whole (a text by its states), finish (a rest that completes it), Reached, after. Proved, in
+-- order: only-alive, finishes (one computed table), next-reached, after-reached, whole-append; completes,
+-- completes-in-bytes.
 use mathlib.Core.Path.{_≡_, refl, sym, ap, _∙_, subst}
 use mathlib.Core.Bool.{Bool, true, false, not, cond, _&&_, _||_}
 use mathlib.Core.List.{List, [], _∷_, _++_}
@@ -12,8 +14,9 @@ use lib.Arith.{lt-of-le-ne}
 use Rattle.positions.proofs.TextLaws.{next-ok}
 use lib.Ieee.Fits.{and-i, and-l, and-r}
 use lib.ListN.{getD, drop}
+use Rattle.big_endian.specs.Bytes.{AreBytes}
 use Rattle.positions.specs.declared.grammar.State.{State}
-use Rattle.positions.specs.Claims.{areBytes}
+use Rattle.positions.proofs.Bytes.{areBytes, are-bytes}
 use Rattle.positions.specs.Text.{words, gaps, rows, classOf, pick, dead, ringNext, literal, nextOf, start}
 
 -- no byte is dead
@@ -159,20 +162,28 @@ abbrev pub after : State → List ℕ → State
 after s [] = s
 after s (b ∷ bs) = after (nextOf s b) bs
 
--- a beginning that is alive is one of a whole text
-pub completes : (p : List ℕ) (s : State) → Reached s → T (alive s p) → T (whole s (p ++ finish (after s p)))
-completes [] s h t = finishes s h
-completes (b ∷ p) s h t =
-    let n = and-l (not (eqb (nextOf s b .at) 76)) (alive (nextOf s b) p) t in
-    and-i (not (eqb (nextOf s b .at) 76)) (whole (nextOf s b) (p ++ finish (after (nextOf s b) p))) n
-    (completes p (nextOf s b) (next-reached s b h n) (and-r (not (eqb (nextOf s b .at) 76)) (alive (nextOf s b) p) t))
+pub after-reached : (p : List ℕ) (s : State) → Reached s → T (alive s p) → Reached (after s p)
+after-reached [] s h t = h
+after-reached (b ∷ p) s h t =
+    let n = not (eqb (nextOf s b .at) 76) in
+    after-reached p (nextOf s b) (next-reached s b h (and-l n (alive (nextOf s b) p) t))
+    (and-r n (alive (nextOf s b) p) t)
 
-pub completes-in-bytes : (p : List ℕ) (s : State) → Reached s → T (alive s p) → T (areBytes (finish (after s p)))
-completes-in-bytes [] s h t = and-r (whole s (finish s)) (areBytes (finish s)) (finishes-in-bytes s h)
-completes-in-bytes (b ∷ p) s h t =
-    let n = and-l (not (eqb (nextOf s b .at) 76)) (alive (nextOf s b) p) t in
-    completes-in-bytes p (nextOf s b) (next-reached s b h n)
-    (and-r (not (eqb (nextOf s b .at) 76)) (alive (nextOf s b) p) t)
+pub whole-append : (p q : List ℕ) (s : State) → T (alive s p) → T (whole (after s p) q) → T (whole s (p ++ q))
+whole-append [] q s t u = u
+whole-append (b ∷ p) q s t u =
+    let n = not (eqb (nextOf s b .at) 76) in
+    and-i n (whole (nextOf s b) (p ++ q)) (and-l n (alive (nextOf s b) p) t)
+    (whole-append p q (nextOf s b) (and-r n (alive (nextOf s b) p) t) u)
 
-pub start-reached : Reached start
-start-reached = record { at = omega arith; ring = omega arith; outside = plain 0 }
+reached : (p : List ℕ) → T (alive start p) → Reached (after start p)
+reached p = after-reached p start (record { at = omega arith; ring = omega arith; outside = plain 0 })
+
+-- a beginning that is alive is one of a whole text, whose rest is of bytes
+pub completes : (p : List ℕ) → T (alive start p) → T (whole start (p ++ finish (after start p)))
+completes p t = whole-append p (finish (after start p)) start t (finishes (after start p) (reached p t))
+
+pub completes-in-bytes : (p : List ℕ) → T (alive start p) → AreBytes (finish (after start p))
+completes-in-bytes p t =
+    let s = after start p in
+    are-bytes (finish s) (and-r (whole s (finish s)) (areBytes (finish s)) (finishes-in-bytes s (reached p t)))

@@ -1,8 +1,9 @@
--- Document 02, P7: the positions of a text, from its bytes alone. Defined, in order: digitOf, isDigit, fresh,
--- pendingOf (the number being read, after one byte more), isEnd, positionOf, Walk, stepped, walked (after i bytes);
--- exact, positionsOf; most, held, Small, onward, DigitRun. A number is in ten-millionths of a degree, and has any
--- number of digits before the point. The code holds no more of its size than 200 degrees, so each definition takes what
--- is held of a size: positionsOf has all of it. Which texts can be imported at all is Text's.
+-- Document 02, P7: the positions of a text, as the code finds them, from its bytes alone. Which positions a text has is
+-- said by its grammar in crate polygon_text, which proves that these are they. Defined, in order: digitOf, isDigit,
+-- fresh, pendingOf (the number being read, after one byte more), isEnd, positionOf, Walk, stepped, walked (after i
+-- bytes); exact, positionsOf; most, held, Small, onward, DigitRun. A number is in ten-millionths of a degree, and has
+-- any number of digits before the point. The code holds no more of its size than 200 degrees, so each definition takes
+-- what is held of a size: positionsOf has all of it.
 use mathlib.Core.Path.{_≡_}
 use mathlib.Core.Bool.{Bool, true, false, cond, _&&_}
 use mathlib.Core.List.{List, [], _∷_, _++_}

@@ -1,5 +1,6 @@
--- Document 02, P7: the texts that can be imported, one object with the members `type` and `coordinates` in either
--- order, and in it one ring. Defined, in order: words, gaps (the two texts around the ring), classOf, classTable
+-- Document 02, P7: the code's machine for the texts that can be imported, byte by byte. Which texts these are is said
+-- by their grammar in crate polygon_text, which proves that this machine takes them and no others: readers need not
+-- believe what stands here. Defined, in order: words, gaps (the two texts around the ring), classOf, classTable
 -- (classes of bytes), rows (the ring), dead, pick, ringNext, literal, nextOf (one byte more), start, read (a whole
 -- text); isPoint (the code's). Claims: what read calls dead is no text's beginning, and what comes before it is.
 use mathlib.Core.Bool.{Bool, true, false, cond, _&&_, _||_}

@@ -1,20 +1,24 @@
 -- The promised theorems, as statements. Their proofs are in proofs/Claims. Stated, in order: WriteGridExactly (28, from
--- C), WrittenReadsFromC (a sheet written from C reads back, with the vertices that were handed over),
--- VerticesReadBack (the bytes that are handed out are the vertices that reading tells of).
+-- C), WrittenReadsFromC (a sheet written from C reads back, with the vertices that were handed over), ReadWritesFromC
+-- (what reading hands out to C writes back the same bytes), VerticesReadBack (the bytes that are handed out are the
+-- vertices that reading tells of).
 use mathlib.Core.Path.{_≡_}
 use mathlib.Core.Bool.{not}
 use mathlib.Core.List.{List}
 use Prim.Native.Nat.{ℕ, _*_, _<_}
 use lib.ListN.{length, take}
 use Rattle.sphere.specs.declared.point.Point.{Point}
+use Rattle.big_endian.specs.Bytes.{AreBytes}
+use Rattle.answer.specs.declared.Answer.the-variants.{Done}
 use Rattle.answer.specs.Answer.{numberOf, placeOf}
 use Rattle.answer.specs.Chain.{_then_, failsIf}
 use Rattle.polygon.specs.Checks.{listCheck}
 use Rattle.polygon.specs.GridClaims.{Mixed}
 use Rattle.basin.specs.Basin.{isGridNumber, gridNumbered}
 use Rattle.fields.specs.Fields.{isCharset, isNameLength}
-use Rattle.sheet.specs.Claims.{ReadsAs}
+use Rattle.sheet.specs.Claims.{nameIn, ReadsAs}
 use Rattle.sheet.specs.Sheet.{verticesOf, readOf}
+use Rattle.book.specs.Which.{gridNumberOf}
 use Rattle.spargolutta.specs.Outline.{outlineOf}
 use Rattle.spargolutta.specs.Writing.{listedOf, bytesWriteOf, bytesWrittenTo}
 use Rattle.spargolutta.specs.Reading.{fillOf, filledTo}
@@ -37,6 +41,17 @@ WrittenReadsFromC =
     ReadsAs zone charset name known (gridNumbered g) (listedOf vertices) second
     (take (placeOf (bytesWriteOf charset name known second vertices g (length buffer)))
     (bytesWrittenTo zone charset name known second vertices g buffer))
+
+-- After a successful read, and with the vertices' bytes that were handed out into a buffer of their own, writing what
+-- was read into a buffer of as many bytes.
+abbrev pub ReadWritesFromC : Type 0
+ReadWritesFromC =
+    (b row buffer : List ℕ) → AreBytes b → numberOf (fillOf b (length row)) ≡ 0 → length buffer ≡ length b →
+    let s = readOf b in
+    let vertices = take (s .«vertex_count» * 12) (filledTo b row) in
+    let g = gridNumberOf (s .grid) in
+    (bytesWriteOf (s .charset) (nameIn s b) (s .known) (s .second) vertices g (length buffer) ≡ Done (length b))
+    × (bytesWrittenTo (s .zone) (s .charset) (nameIn s b) (s .known) (s .second) vertices g buffer ≡ b)
 
 -- After success the front of the buffer, as vertices, is the list that reading tells of.
 abbrev pub VerticesReadBack : Type 0

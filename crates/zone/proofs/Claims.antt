@@ -1,30 +1,35 @@
 -- The claims of specs/Claims, proved. In order: sheet-answers-as-list, sheet-feed-equals-single,
--- sheet-refused-writes-nothing, sheet-never-eighteen, sheet-looked-at-most. The chosen candidate is in proofs/Chosen,
--- the octant's answers are in proofs/Octant.
+-- sheet-refused-writes-nothing, sheet-never-eighteen, sheet-numbers, sheet-looked-at-most. The chosen candidate is in
+-- proofs/Chosen, the octant's answers are in proofs/Octant.
 use mathlib.Core.Path.{_≡_, refl, sym, _∙_, ap, subst}
 use mathlib.Core.Bool.{true}
 use mathlib.Core.List.{List}
-use Prim.Native.Nat.{ℕ, _+_, _*_}
+use Prim.Native.Nat.{ℕ, _+_, _*_, _≤_, _<_}
 use native.Mathlib.Omega.{arith}
+use lib.Dec.{lit≤, lit<}
 use lib.ListN.{length}
 use Rattle.sphere.specs.declared.point.Point.{Point}
-use Rattle.sphere.specs.Point.{limitOf}
+use Rattle.sphere.specs.Point.{limitOf, isOffGrid}
+use Rattle.sphere.specs.Direction.{isAntipodal}
 use Rattle.answer.specs.declared.Answer.the-variants.{Done}
 use Rattle.answer.specs.declared.Check.{Check}
 use Rattle.answer.specs.declared.Check.the-variants.{Passed, Failed}
 use Rattle.answer.specs.Answer.{numberOf, answerAfter}
 use Rattle.answer.specs.Buffer.{bufferAfter}
-use Rattle.answer.proofs.Laws.Numbers.{Numbered, Other}
+use Rattle.answer.specs.Chain.{_then_}
+use Rattle.answer.proofs.Laws.Numbers.{Numbered, Other, _both_, if-numbered, after-numbered}
 use Rattle.big_endian.proofs.Laws.Rows.{intsAt-length}
 use Rattle.answer.proofs.Laws.Chain.{then-passed}
-use Rattle.polygon.proofs.Laws.Pair.{optional-judged}
+use Rattle.polygon.proofs.Laws.Numbers.{verdict-numbered}
+use Rattle.polygon.proofs.Laws.Pair.{optional-judged, judge-accepted, answer-accepted}
 use Rattle.fields.specs.Fields.{verticesStart, gridOf, hasSecond}
 use Rattle.sheet.specs.Sheet.{knownOf, vertexCountOf, verticesOf, secondOf, sheetCheck}
 use Rattle.zone.specs.Judge.{sheetAnswerOf, sheetLookedOf, sheetFeedCheck, sheetFeedOf, sheetResultsAfter}
 use Rattle.zone.specs.Claims.{SheetAnswersAsList, SheetFeedEqualsSingle, SheetRefusedWritesNothing}
-use Rattle.zone.specs.Claims.{SheetNeverEighteen, SheetLookedAtMost}
+use Rattle.zone.specs.Claims.{SheetNeverEighteen, IsQueryNumber, SheetNumbers, SheetLookedAtMost}
 use Rattle.sheet.proofs.Laws.Reads.{sheet-optional, read-accepted}
-use Rattle.polygon.specs.Verdict.{answerOf}
+use Rattle.polygon.specs.Checks.{queryCheck, farCheck}
+use Rattle.polygon.specs.Verdict.{boundaryOf, crossingsOf, windingOf, verdictOf, answerOf}
 use Rattle.polygon.specs.Pair.{judgeFrom, pairCheck, optionalCheck, pairAnswerOf}
 use Rattle.polygon.proofs.PairClaims.{pair-never-eighteen-holds}
 use Rattle.judging.proofs.Claims.{looked-after, looked-bounded}
@@ -100,8 +105,8 @@ module _ (b : List ℕ) (has : hasSecond b ≡ true) where
   unfolding sheetAnswerOf pairAnswerOf pairCheck optionalCheck
   paired done P =
       let some = accepted b done .some has in
-      let both = sheet-optional b done in
-      rw (done, rw some at both)
+      let passes = sheet-optional b done in
+      rw (done, rw some at passes)
 
   never : (P : Point) → numberOf (sheetAnswerOf b P) ≡ 18 → ⊥
   never P = go (sheetCheck b) refl
@@ -122,6 +127,41 @@ sheet-never-eighteen b has = (
       let results = sheet-feed-equals-single b queries buffer done in
       never b has _ (sym (results .each i l .number) ∙ e),
 )
+
+-- ---- the numbers of a query
+verdict-number : (n : ℕ) → 1 ≤ n → n ≤ 3 → IsQueryNumber n
+verdict-number n l m = IsQueryNumber.verdict l m
+
+refusal-number : (n : ℕ) → 10 < n → n < 25 → IsQueryNumber n
+refusal-number n l m = IsQueryNumber.refusal (omega (arith, l)) (omega (arith, m))
+
+module _ (b : List ℕ) (P : Point) where
+  -- by an accepted sheet: 17, 18 or a verdict
+  judged-number : sheetCheck b ≡ Passed → IsQueryNumber (numberOf (sheetAnswerOf b P))
+  unfolding sheetAnswerOf queryCheck farCheck verdictOf
+  judged-number done =
+      let limit = limitOf (gridOf b) in
+      let vs = verticesOf b in
+      let X = judgeFrom (knownOf b) (secondOf b) P in
+      let accepts = judge-accepted limit vs (knownOf b) (secondOf b) (sheet-optional b done) P in
+      rw (done, answer-accepted limit vs X P accepts)
+      (after-numbered {Is = IsQueryNumber} (queryCheck limit P then farCheck X P) (verdictOf vs X P)
+      (if-numbered 17 (isOffGrid limit P) (refusal-number 17 (lit< tt) (lit< tt))
+      both if-numbered 18 (isAntipodal X P) (refusal-number 18 (lit< tt) (lit< tt)))
+      (verdict-numbered IsQueryNumber (verdict-number 1 (lit≤ tt) (lit≤ tt)) (verdict-number 2 (lit≤ tt) (lit≤ tt))
+      (verdict-number 3 (lit≤ tt) (lit≤ tt)) (boundaryOf vs P) (crossingsOf vs X P) (windingOf vs X P)))
+
+pub sheet-numbers : SheetNumbers
+sheet-numbers b P = go (sheetCheck b) refl
+  where
+    refused : Numbered IsQueryNumber (sheetCheck b)
+    refused =
+        sheet-numbered IsQueryNumber (λ n l m. refusal-number n (omega (arith, l)) m)
+        (λ n l m. refusal-number n l (omega (arith, m))) b
+
+    go : (c : Check) → sheetCheck b ≡ c → IsQueryNumber (numberOf (sheetAnswerOf b P))
+    go Passed c = judged-number b P c
+    go (Failed number place) c = rw (sheet-answer-refused b P c) (refused .each number place c)
 
 -- ---- the edges looked at
 pub sheet-looked-at-most : SheetLookedAtMost

@@ -1,9 +1,9 @@
 -- The promised theorems of judging by a sheet, as statements. Their proofs are in proofs/Claims. Stated, in order:
 -- SheetAnswersAsList (judging by a sheet is judging by the list and the points in it, so that polygon's claims hold of
 -- it), SheetFeedEqualsSingle (a feed by a sheet answers each query as the single call does), SheetRefusedWritesNothing,
--- SheetNeverEighteen (with a second point, of single calls and feeds), SheetLookedAtMost (as many edges as there are),
--- ChosenReadsBack (a sheet with the chosen candidate behind it), OctantAnswers (document 01's sheet, with its second
--- point and on either grid).
+-- SheetNeverEighteen (with a second point, of single calls and feeds), SheetNumbers (which numbers a query can get),
+-- SheetLookedAtMost (as many edges as there are), ChosenReadsBack (a sheet with the chosen candidate behind it),
+-- OctantAnswers (document 01's sheet, with its second point and on either grid).
 use mathlib.Core.Path.{_≡_}
 use mathlib.Core.Bool.{true, false}
 use mathlib.Core.List.{List, _++_}
@@ -53,6 +53,15 @@ SheetNeverEighteen =
     ((P : Point) → numberOf (sheetAnswerOf b P) ≡ 18 → ⊥)
     × ((queries buffer : List ℕ) → sheetFeedOf b queries (length buffer) ≡ Done 0 → (i : ℕ) → i < queryCount queries →
     wordAt (sheetResultsAfter b queries buffer) (i * 12) ≡ 18 → ⊥)
+
+-- A verdict, or a refusal of the sheet (11 to 16, 19 to 24) or of the query (17, 18).
+pub data IsQueryNumber (n : ℕ) : Type 0 where
+  verdict : 1 ≤ n → n ≤ 3 → IsQueryNumber n
+  refusal : 11 ≤ n → n ≤ 24 → IsQueryNumber n
+
+-- No query by a sheet has another number, on any bytes.
+abbrev pub SheetNumbers : Type 0
+SheetNumbers = (b : List ℕ) (P : Point) → IsQueryNumber (numberOf (sheetAnswerOf b P))
 
 -- The edges looked at are never more than the sheet has.
 abbrev pub SheetLookedAtMost : Type 0
