@@ -2,6 +2,7 @@
 
 use crate::charts::fine;
 use crate::host::{command, output_of, repository, run_in_pieces, Folder};
+use crate::islands::{islands, queries, Extent};
 use crate::random::Random;
 use crate::sheet::{octant, octant_pair, points_bytes, Grid, Sheet, GRIDS};
 use crate::turns::near_feed;
@@ -61,6 +62,23 @@ pub fn refused_plain_sheets(grid: Grid) -> Vec<Vec<u8>> {
         change(|sheet| sheet.charset = 4),
         [octant.bytes(), vec![0]].concat(),
     ]
+}
+
+/// The manual page says that 560 KiB of stack do: with the longest outline and a feed that builds an index too.
+#[test]
+fn program_in_little_stack() {
+    let folder = Folder::new("little-stack");
+    let islands = islands(1, 4_096, Extent::World);
+    folder.write("queries", &points_bytes(&queries(2, &islands, 4_096)));
+    let program = zone_judge(&folder, Some(&islands.sheet()));
+    let run = |limit: &str| {
+        let mut shell = command("sh", ["-c", "ulimit -s $1; exec \"$0\" < queries"]);
+        shell.arg(program.get_program()).arg(limit).current_dir(folder.path(""));
+        output_of(&mut shell, &[])
+    };
+    let printed = run("8192");
+    assert_eq!(printed.lines().count(), 4_096);
+    assert_eq!(run("560"), printed);
 }
 
 #[test]

@@ -1,6 +1,6 @@
-// Whether lines 16 and 11 pass, by quick passes over the list: most polygons are accepted. They say only yes or no; which
-// line refuses, and where, is worked out in checks. Here, in order: is_level, is_on_circle, off_pairs, off_circles (16);
-// far_at, count_far, is_near (11).
+// Whether lines 16 and 11 pass, by quick passes over the list: most polygons are accepted. They say only yes or no;
+// which line refuses, and where, is worked out in checks. Here, in order: is_level, is_on_circle, off_pairs,
+// off_circles (16); far_at, count_far, is_near (11).
 ghost use mathlib.Core.Path.{_≡_};
 ghost use mathlib.Core.Bool.{false, cond};
 ghost use Prim.Native.Nat.{_-_, _<_};

@@ -1,5 +1,6 @@
 // A feed judged by a sheet's bytes: document 02's P1. Any bytes.
-// Here, in order: feed_check, feed_answer (nothing is written), feed_in, feed.
+// Here, in order: feed_check, feed_answer (nothing is written); feed_in; feed_short, feed_middle, feed_long, feed (by
+// the sheet's size).
 ghost use mathlib.Core.Path.{_≡_};
 ghost use Prim.Native.Nat.{_≤_};
 ghost use lib.ListN.{length};
@@ -70,18 +71,50 @@ fn feed_in(
     Answer::Done(0)
 }
 
-// Judges every query and writes its result. A refusal changes no byte of the results. A short sheet gets little scratch
-// space, as in `judge`.
+// The sizes of `judge`.
+fn feed_short(sheet: &[u8], queries: &[u8], results: &mut [u8]) -> Answer
+    requires { ⌜ length (now sheet) ≤ 3072 ⌝ }
+    ensures { λ r. ⌜ r ≡ sheetFeedOf (now (sheet .entry)) (now (queries .entry)) (length (now (results .entry))) ⌝ }
+    ensures { λ _. ⌜ now (results .exit) ≡ sheetResultsAfter (now (sheet .entry)) (now (queries .entry))
+        (now (results .entry)) ⌝ }
+{
+    let mut scratch = [0i32; 768];
+    let mut boxes = [0i32; 48];
+    feed_in(sheet, queries, results, &mut scratch, &mut boxes)
+}
+
+fn feed_middle(sheet: &[u8], queries: &[u8], results: &mut [u8]) -> Answer
+    requires { ⌜ length (now sheet) ≤ 16384 ⌝ }
+    ensures { λ r. ⌜ r ≡ sheetFeedOf (now (sheet .entry)) (now (queries .entry)) (length (now (results .entry))) ⌝ }
+    ensures { λ _. ⌜ now (results .exit) ≡ sheetResultsAfter (now (sheet .entry)) (now (queries .entry))
+        (now (results .entry)) ⌝ }
+{
+    let mut scratch = [0i32; 4096];
+    let mut boxes = [0i32; 258];
+    feed_in(sheet, queries, results, &mut scratch, &mut boxes)
+}
+
+fn feed_long(sheet: &[u8], queries: &[u8], results: &mut [u8]) -> Answer
+    ensures { λ r. ⌜ r ≡ sheetFeedOf (now (sheet .entry)) (now (queries .entry)) (length (now (results .entry))) ⌝ }
+    ensures { λ _. ⌜ now (results .exit) ≡ sheetResultsAfter (now (sheet .entry)) (now (queries .entry))
+        (now (results .entry)) ⌝ }
+{
+    let mut scratch = [0i32; 12288];
+    let mut boxes = [0i32; 768];
+    feed_in(sheet, queries, results, &mut scratch, &mut boxes)
+}
+
+// Judges every query and writes its result. A refusal changes no byte of the results.
 pub fn feed(sheet: &[u8], queries: &[u8], results: &mut [u8]) -> Answer
     ensures { λ r. ⌜ r ≡ sheetFeedOf (now (sheet .entry)) (now (queries .entry)) (length (now (results .entry))) ⌝ }
     ensures { λ _. ⌜ now (results .exit) ≡ sheetResultsAfter (now (sheet .entry)) (now (queries .entry))
         (now (results .entry)) ⌝ }
 {
-    let mut little = [0i32; 768];
     if sheet.len() <= 3072 {
-        let mut few = [0i32; 48];
-        return feed_in(sheet, queries, results, &mut little, &mut few);
+        return feed_short(sheet, queries, results);
     }
-    let mut scratch = [0i32; 12288];
-    feed_in(sheet, queries, results, &mut scratch, &mut little)
+    if sheet.len() <= 16384 {
+        return feed_middle(sheet, queries, results);
+    }
+    feed_long(sheet, queries, results)
 }

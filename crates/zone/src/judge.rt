@@ -1,5 +1,6 @@
 // Judging by a sheet's bytes, from its known point or, for a query opposite that, from its second point. Any bytes and
-// any query; nothing is written. Here, in order: judged_in, judged; judge, looked (document 02, P2).
+// any query; nothing is written. Here, in order: judged_in; judged_short, judged_middle, judged_long, judged (by the
+// sheet's size); judge, looked (document 02, P2).
 ghost use mathlib.Core.Path.{_≡_};
 ghost use Prim.Native.Nat.{_≤_};
 ghost use lib.ListN.{length};
@@ -48,19 +49,49 @@ fn judged_in(
     )
 }
 
-// A short sheet, of up to 256 vertices, gets little scratch space: clearing more would be most of the call. What is its
-// space for vertices is a longer one's for boxes, so that the stack holds it once.
+// A short sheet has at most 255 vertices: clearing space for more would be most of the call.
+fn judged_short(b: &[u8], query: Point, mode: Mode) -> Judgement
+    requires { ⌜ length (now b) ≤ 3072 ⌝ }
+    ensures { λ r. ⌜ (r .answer ≡ sheetAnswerOf (now (b .entry)) query)
+        × (r .looked ≡ lookedIn mode (sheetLookedOf (now (b .entry)) query)) ⌝ }
+{
+    let mut scratch = [0i32; 768];
+    let mut boxes = [0i32; 48];
+    judged_in(b, query, &mut scratch, &mut boxes, mode)
+}
+
+// And a middle one at most 1,365.
+fn judged_middle(b: &[u8], query: Point, mode: Mode) -> Judgement
+    requires { ⌜ length (now b) ≤ 16384 ⌝ }
+    ensures { λ r. ⌜ (r .answer ≡ sheetAnswerOf (now (b .entry)) query)
+        × (r .looked ≡ lookedIn mode (sheetLookedOf (now (b .entry)) query)) ⌝ }
+{
+    let mut scratch = [0i32; 4096];
+    let mut boxes = [0i32; 258];
+    judged_in(b, query, &mut scratch, &mut boxes, mode)
+}
+
+fn judged_long(b: &[u8], query: Point, mode: Mode) -> Judgement
+    ensures { λ r. ⌜ (r .answer ≡ sheetAnswerOf (now (b .entry)) query)
+        × (r .looked ≡ lookedIn mode (sheetLookedOf (now (b .entry)) query)) ⌝ }
+{
+    let mut scratch = [0i32; 12288];
+    let mut boxes = [0i32; 768];
+    judged_in(b, query, &mut scratch, &mut boxes, mode)
+}
+
+// Scratch space by the sheet's size. Each size is a function of its own, so that the stack holds one of them.
 fn judged(b: &[u8], query: Point, mode: Mode) -> Judgement
     ensures { λ r. ⌜ (r .answer ≡ sheetAnswerOf (now (b .entry)) query)
         × (r .looked ≡ lookedIn mode (sheetLookedOf (now (b .entry)) query)) ⌝ }
 {
-    let mut little = [0i32; 768];
     if b.len() <= 3072 {
-        let mut few = [0i32; 48];
-        return judged_in(b, query, &mut little, &mut few, mode);
+        return judged_short(b, query, mode);
     }
-    let mut scratch = [0i32; 12288];
-    judged_in(b, query, &mut scratch, &mut little, mode)
+    if b.len() <= 16384 {
+        return judged_middle(b, query, mode);
+    }
+    judged_long(b, query, mode)
 }
 
 pub fn judge(b: &[u8], query: Point) -> Answer

@@ -2,7 +2,7 @@
 
 use super::*;
 use crate::compare::Tally;
-use crate::library::number;
+use crate::library::{feed_number, number};
 use crate::sheet::{points_bytes, GRIDS};
 
 #[test]
@@ -19,9 +19,9 @@ fn compared() {
     }
 }
 
-/// Up to 3,072 bytes of sheet a call has room for 256 vertices only: sheets of 3,057 to 3,108 bytes, whole,
-/// with a byte too many, with one too few, and with more vertices announced than there are.
-fn compare_around_3072(tally: &mut Tally, grid: Grid, sides: usize) {
+/// Up to 3,072 bytes of sheet a call has room for 256 vertices only, and up to 16,384 for 1,365: sheets about both
+/// sizes, whole, with a byte too many, with one too few, and with more vertices announced than there are.
+fn compare_lengths(tally: &mut Tally, grid: Grid, sides: usize) {
     let islands = islands_on(grid, 1, sides, Extent::Archipelago);
     let queries = queries(2, &islands, 40);
     for name in 1..=40 {
@@ -31,23 +31,29 @@ fn compare_around_3072(tally: &mut Tally, grid: Grid, sides: usize) {
         for &query in &queries {
             tally.compare(&whole, query);
         }
+        let (asked, mut results) = (points_bytes(&queries), vec![0; 12 * queries.len()]);
+        assert_eq!(feed_number(&whole, &asked, &mut results), 0);
+        assert!(queries.iter().zip(results.chunks(12)).all(|(&query, result)| {
+            number(&whole, query).to_be_bytes() == result[..4]
+        }));
         let mut announced = whole.clone();
         let row = whole.len() - 12 * sides;
         announced[row - 2..row].copy_from_slice(&49_152u16.to_be_bytes());
         for bad in [[&whole[..], &[0]].concat(), whole[..whole.len() - 1].to_vec(), announced] {
             tally.compare(&bad, queries[0]);
+            assert_eq!(feed_number(&bad, &asked, &mut results), number(&bad, queries[0]));
         }
     }
 }
 
 #[test]
-fn short_and_long_sheets() {
+fn short_middle_and_long_sheets() {
     for grid in GRIDS {
         let mut tally = Tally::default();
-        for sides in [252, 253] {
-            compare_around_3072(&mut tally, grid, sides);
+        for sides in [252, 253, 1_360, 1_361] {
+            compare_lengths(&mut tally, grid, sides);
         }
-        tally.report(&format!("short and long sheets, {grid:?}"), 3_000, [1, 2, 3, 20, 24]);
+        tally.report(&format!("short, middle and long sheets, {grid:?}"), 6_000, [1, 2, 3, 20, 24]);
     }
 }
 

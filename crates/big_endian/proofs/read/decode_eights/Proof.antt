@@ -46,7 +46,8 @@ decode-four-requires-2 c κs =
     let s = t .before .before .before in
     let k = t .before .loop .j * 8 in
     let row = intsAt (s .args .b .now) (s .args .at + k * 4) 4 in
-    let e = ap length (d .decode-four .ensures) ∙ length-sets (t .before .loop .out) k row ∙ t .before .loop .inv .1 in (
+    let e = ap length (d .decode-four .ensures) ∙ length-sets (t .before .loop .out) k row
+    ∙ t .before .loop .inv .1 in (
       omega (arith, t .loop-test .taken, s .pre .0),
       omega (arith, t .loop-test .taken, s .pre .1, e),
     )
