@@ -60,7 +60,7 @@ static void read_feed(FILE *file, struct feed *feed)
 }
 
 /* Judges the feed by a sheet, its results into the feed: 0, or why it was refused. */
-static uint32_t judge_feed(const uint8_t *sheet, size_t sheet_len, struct feed *feed)
+static inline uint32_t judge_feed(const uint8_t *sheet, size_t sheet_len, struct feed *feed)
 {
     return spg_feed_number(sheet, sheet_len, feed->queries, SPG_POINT_SIZE * feed->n, feed->results,
                            sizeof feed->results);
