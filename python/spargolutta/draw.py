@@ -55,7 +55,7 @@ def stop_data(zones: Sequence[Zone], stops: Stops, path: str, report: Report) ->
     """What the page has of the stops: the answers of the zones that they are not outside of."""
     found: List[Dict[str, Any]] = []
     for part in stops:
-        rows: List[Dict[str, Any]] = [{"id": part.ids[k], "name": part.names[k], "answers": []} for k in range(len(part.ids))]
+        rows: List[Dict[str, Any]] = [{"id": i, "name": name, "answers": []} for i, name in zip(part.ids, part.names)]
         for i, zone in enumerate(zones):
             results = angles.from_bytes(zone.judge_points(angles.points_of(part.positions, zone.grid)), unsigned=True)
             for k in range(len(rows)):
