@@ -7,5 +7,6 @@ pub mod Halves
 pub mod Classes
 pub mod Lengths
 pub mod Claims
+pub mod Judged
 pub mod Pair
 pub mod Examples

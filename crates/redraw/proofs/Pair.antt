@@ -1,7 +1,7 @@
 -- Redrawn lists with pairs of reference points. The parity from the point that judges is the bit of the first plus the
--- bit of the query, over one grid that holds both; and bits are counts of crossings, which no redrawing changes. Proved,
--- in order: second-bit, arc-judged; pair-unmoved; after-passed, first-passed, redrawn-verdicts (every refusal is 10 or
--- more: where the number is at most 3, all checks passed).
+-- bit of the query (Judged), and bits are counts of crossings, which no redrawing changes. Proved, in order:
+-- pair-unmoved; after-passed, first-passed, query-on-grid, not-far, redrawn-verdicts (every refusal is 10 or more: where
+-- the number is at most 3, all checks passed).
 use mathlib.Core.Path.{_≡_, refl, sym, _∙_, ap, ap₂, subst}
 use mathlib.Core.Bool.{Bool, true, false, cond}
 use mathlib.Core.List.{List}
@@ -9,12 +9,10 @@ use Prim.Native.Nat.{ℕ, _+_, _%_, _≤_, _<_}
 use native.Mathlib.Omega.{arith}
 use lib.IntN.{ℤ}
 use Rattle.sphere.specs.declared.point.Point.{Point}
-use Rattle.sphere.specs.Point.{isNull}
 use Rattle.sphere.specs.Direction.{isSameDirection}
-use Rattle.sphere.proofs.Parity.{_⊕_, ⊕-equal}
+use Rattle.sphere.proofs.Parity.{_⊕_}
 use Rattle.sphere.proofs.Generic.{generic}
 use Rattle.sphere.proofs.Laws.Aligned.{aligned-refl}
-use Rattle.sphere.proofs.Laws.Grid.{within-more}
 use Rattle.answer.specs.declared.Found.{Found}
 use Rattle.answer.specs.declared.Found.the-variants.{Nothing, At}
 use Rattle.answer.specs.declared.Answer.{Answer}
@@ -23,64 +21,22 @@ use Rattle.answer.specs.declared.Check.the-variants.{Passed, Failed}
 use Rattle.answer.specs.Answer.{numberOf, answerAfter}
 use Rattle.answer.proofs.Laws.Chain.{then-passed}
 use Rattle.answer.proofs.Laws.Numbers.{Numbered}
-use Rattle.answer.proofs.Laws.Search.{first-none, found-none}
+use Rattle.answer.proofs.Laws.Search.{found-none}
 use Rattle.polygon.specs.Vertices.{vertexCount}
 use Rattle.polygon.specs.Checks.{listCheck, acceptCheck, queryCheck, farCheck, judgeCheck}
-use Rattle.polygon.specs.Verdict.{isOnBorder, isCrossed, boundaryOf, crossingsOf, verdictOf, answerOf}
+use Rattle.polygon.specs.Verdict.{isCrossed, boundaryOf, crossingsOf, verdictOf, answerOf}
 use Rattle.polygon.specs.Pair.{judgeFrom, optionalCheck, optionalAnswerOf}
 use Rattle.polygon.proofs.Laws.Count.{count-odd}
-use Rattle.polygon.proofs.Laws.Checks.{OffCircles, Reference, reference-accepted, query-passed}
+use Rattle.polygon.proofs.Laws.Checks.{OffCircles, reference-accepted}
 use Rattle.polygon.proofs.Laws.Numbers.{list-numbered, optional-numbered, judge-numbered}
-use Rattle.polygon.proofs.Laws.Pair.{optional-first, optional-second, judge-either, judge-accepted, optional-judged}
-use Rattle.polygon.proofs.Potential.{arc, bit, arc-bits}
-use Rattle.polygon.proofs.Verdict.{numberBy, number-judged, near, pair-passed, accepted-clears, called}
+use Rattle.polygon.proofs.Laws.Pair.{optional-first}
+use Rattle.polygon.proofs.Potential.{arc, bit}
+use Rattle.polygon.proofs.Verdict.{numberBy}
 use Rattle.redraw.specs.PairClaims.{PairUnmoved, RedrawnVerdicts}
+use Rattle.redraw.proofs.Judged.{number-by, arc-judged}
 use Rattle.redraw.proofs.Directions.{align, same-back}
 use Rattle.redraw.proofs.Alike.{Alike}
 use Rattle.redraw.proofs.Claims.{redrawn-alike, crossings-same, clear-same}
-
-even : (b : Bool) → numberBy Nothing b ≡ 1 → b ≡ false
-even true e = absurd (omega arith)
-even false e = refl
-
--- ---- one list, and a grid that holds its own
-module _ (limit wide : ℕ) (more : limit ≤ wide) (vs : List ℤ) where
-  reference-more : (X : Point) → acceptCheck limit vs X ≡ Passed → Reference wide vs X
-  reference-more X e = let r = reference-accepted limit vs X e in record {
-    accepted = record {
-      listed = r .accepted .listed;
-      gridded = record { each = λ i h. within-more more (r .accepted .gridded .each i h) };
-      known = within-more more (r .accepted .known);
-    };
-    off-circle = r .off-circle;
-  }
-
-  module _ (X X₂ P : Point) (x : optionalCheck limit vs X X₂ ≡ Passed) (p : queryCheck limit P ≡ Passed)
-      (fair : numberOf (optionalAnswerOf limit vs X X₂ P) ≡ 18 → ⊥) where
-    abbrev U : Point
-    U = judgeFrom X X₂ P
-
-    number-by : numberOf (optionalAnswerOf limit vs X X₂ P) ≡ numberBy (boundaryOf vs P) (arc vs U P)
-    number-by = ap numberOf (optional-judged limit vs X X₂ P x)
-        ∙ number-judged limit vs U P (pair-passed limit vs X X₂ P x p fair)
-
-    second-bit : isNull X₂ ≡ false → bit wide vs X₂ ≡ bit wide vs X
-    second-bit some =
-        let s = optional-second limit vs X X₂ x some in
-        let first = optional-first limit vs X X₂ x in
-        let c = called limit vs X X₂ 1 first (s .accepted) (omega arith) (s .inside) in
-        let r = reference-more X₂ (s .accepted) in
-        sym (⊕-equal (bit wide vs X) (bit wide vs X₂)
-        (sym (arc-bits wide vs X X₂ (reference-more X first) (r .accepted .known) (c .near)
-        (accepted-clears wide vs X₂ r)) ∙ even (arc vs X X₂) (c .parity)))
-
-    arc-judged : boundaryOf vs P ≡ Nothing → arc vs U P ≡ (bit wide vs X ⊕ bit wide vs P)
-    unfolding boundaryOf
-    arc-judged none =
-        arc-bits wide vs U P (reference-more U (judge-accepted limit vs X X₂ x P)) (within-more more (query-passed p))
-        (near limit vs X X₂ P x p fair) (λ i. first-none (isOnBorder vs P) 0 (vertexCount vs) i none)
-        ∙ ap (λ b. b ⊕ bit wide vs P)
-        (judge-either X X₂ P (λ U. bit wide vs U ≡ bit wide vs X) refl (λ far some. second-bit some))
 
 -- ---- counts and parities
 odd-of : (a b : Bool) → _≡_ {A = ℕ} (cond a 1 0) (cond b 1 0) → a ≡ b
@@ -164,7 +120,7 @@ module _ (limit : ℕ) (vs : List ℤ) (X Y P : Point) (h : numberOf (optionalAn
   unfolding optionalAnswerOf
   answered = subst (λ c. numberOf (answerAfter c (answerOf limit vs (judgeFrom X Y P) P)) ≤ 3) first-passed h
 
-  query-on-grid : queryCheck limit P ≡ Passed
+  pub query-on-grid : queryCheck limit P ≡ Passed
   unfolding answerOf judgeCheck
   query-on-grid =
       let U = judgeFrom X Y P in
@@ -172,7 +128,7 @@ module _ (limit : ℕ) (vs : List ℤ) (X Y P : Point) (h : numberOf (optionalAn
       (judge-numbered Late limit vs list-late (λ n l m. omega arith) U (omega arith) (omega arith) P) answered in
       then-passed (queryCheck limit P) (farCheck U P) (then-passed (acceptCheck limit vs U) _ judged .1) .0
 
-  not-far : numberOf (optionalAnswerOf limit vs X Y P) ≡ 18 → ⊥
+  pub not-far : numberOf (optionalAnswerOf limit vs X Y P) ≡ 18 → ⊥
   not-far e = larger (numberOf (optionalAnswerOf limit vs X Y P)) h e
     where
       larger : (n : ℕ) → n ≤ 3 → n ≡ 18 → ⊥
