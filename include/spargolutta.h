@@ -23,7 +23,8 @@
  *     memory   Only the bytes named are touched, and only those of a buffer that is not const are written; with a
  *              refusal none is. A buffer that is written must not overlap what the same call reads: the compiled code
  *              may assume it. No call keeps state or allocates, and each needs less than 64 KiB of stack; but for
- *              spg_feed_number with 128 queries or more, which may build an index: that needs less than 128 KiB.
+ *              spg_feed_number and spg_book_feed_number with 128 queries or more, which may build an index: that
+ *              needs less than 128 KiB.
  *     threads  Any number may call at once, on the same sheet too, each with buffers of its own to write to.
  *     time     Each call returns. It checks the whole sheet and works out the whole answer, in time that grows with
  *              the number of vertices; where it grows faster, the call says so.
@@ -93,6 +94,7 @@
 #define SPG_NAME_MOST 120        /* bytes of a name */
 #define SPG_SHEET_MOST 49319     /* bytes of a sheet */
 #define SPG_SHEETS_MOST 64       /* sheets of a book */
+#define SPG_BOOK_RESULT_SIZE 24  /* bytes of a result of a feed to a book */
 
 #define SPG_UTF8 1               /* the character sets */
 #define SPG_ISO_8859_7 2
@@ -400,8 +402,8 @@ SPG_PURE uint32_t spg_basin_count(const uint8_t *vertices, size_t vertices_len, 
  *                 are. What would be 24 in a sheet by itself starts the next sheet. With equal arguments all six belong
  *                 together.
  *
- * Nothing is written. Each call checks and judges every sheet: for many queries to one book, a feed to each of its
- * sheets is far quicker (examples/which_harbour.c).
+ * Nothing is written. Each call checks and judges every sheet. spg_book, below, gives all six at once, and for many
+ * queries to one book spg_book_feed_number is far quicker (examples/which_harbour.c).
  */
 SPG_PURE uint32_t spg_book_number(const uint8_t *book, size_t book_len, uint32_t grid, int32_t x, int32_t y,
                                   int32_t z);
@@ -415,6 +417,81 @@ SPG_PURE uint64_t spg_book_boundary(const uint8_t *book, size_t book_len, uint32
                                     int32_t z);
 SPG_PURE uint64_t spg_book_refused(const uint8_t *book, size_t book_len, uint32_t grid, int32_t x, int32_t y,
                                    int32_t z);
+
+/*
+ * spg_book_feed_number, spg_book_feed_place, spg_book_feed_count: any number of queries, one book. Each sheet is
+ * checked once.
+ *
+ * book, book_len        As above.
+ * grid                  The grid of all queries, as above.
+ * queries, queries_len  The queries, 12 bytes each (spg_put_point). None will do too: the book is checked all the same.
+ * results, results_len  The result buffer, 24 bytes for each query (2 * queries_len) or more. The calls for place and
+ *                       count take its length alone.
+ * Result                0, place 0, count 0 where the feed was judged; or 26, 27, or the book's refusal (20 to 23, 36),
+ *                       once for the whole feed. With the same book, queries and results_len the three belong together.
+ *
+ * spg_book_feed_number writes, and it alone. With 0, result i is the 24 bytes from 24 * i on: the sets of the zones
+ * that query i is inside of, that have it on their boundary, and that refuse it, as spg_book_inside, _boundary and
+ * _refused give them, each unsigned 64-bit, big-endian; spg_book_result_at reads it. A zone that is refused by itself
+ * is in the refused set of every query, and spoils no other zone. The bytes past the last result stay as they were.
+ * With any other number nothing at all is written. spg_book_feed_place and spg_book_feed_count check the lengths and
+ * the book's fields and judge no query.
+ *
+ * A query that a plane through the centre separates from a sheet's outline needs no search of it: all such queries get
+ * one verdict, which is worked out once a sheet. Where many queries are near an outline it is searched by an index, as
+ * in a feed. No result depends on either.
+ */
+SPG_USED uint32_t spg_book_feed_number(const uint8_t *book, size_t book_len, uint32_t grid, const uint8_t *queries,
+                                       size_t queries_len, uint8_t *SPG_RESTRICT results, size_t results_len);
+SPG_PURE size_t spg_book_feed_place(const uint8_t *book, size_t book_len, uint32_t grid, const uint8_t *queries,
+                                    size_t queries_len, size_t results_len);
+SPG_PURE uint32_t spg_book_feed_count(const uint8_t *book, size_t book_len, uint32_t grid, const uint8_t *queries,
+                                      size_t queries_len, size_t results_len);
+
+/* Three sets of zones, and how many zones are in the first two. */
+struct spg_sets {
+    uint64_t inside;
+    uint64_t boundary;
+    uint64_t refused;
+    uint32_t count;
+};
+
+/* Result i of a feed to a book that was judged. */
+SPG_NONNULL SPG_PURE static inline struct spg_sets spg_book_result_at(const uint8_t *results, size_t i)
+{
+    const uint8_t *result = results + SPG_BOOK_RESULT_SIZE * i;
+    struct spg_sets sets = {0, 0, 0, 0};
+    uint64_t held;
+    sets.inside = (uint64_t)spg_number_at(result) << 32 | spg_number_at(result + 4);
+    sets.boundary = (uint64_t)spg_number_at(result + 8) << 32 | spg_number_at(result + 12);
+    sets.refused = (uint64_t)spg_number_at(result + 16) << 32 | spg_number_at(result + 20);
+    for (held = sets.inside | sets.boundary; held != 0; held &= held - 1)
+        sets.count++;
+    return sets;
+}
+
+/* What a book says of a query: number and place, and the sets, which are empty with a refusal. */
+struct spg_book_answer {
+    uint32_t number;
+    size_t place;
+    struct spg_sets sets;
+};
+
+/* The whole answer to one query, by a feed of one: what spg_book_number and its likes give. */
+SPG_USED static inline struct spg_book_answer spg_book(const uint8_t *book, size_t book_len, uint32_t grid, int32_t x,
+                                                       int32_t y, int32_t z)
+{
+    uint8_t query[SPG_POINT_SIZE], result[SPG_BOOK_RESULT_SIZE];
+    struct spg_book_answer answer = {0, 0, {0, 0, 0, 0}};
+    spg_put_point(query, x, y, z);
+    answer.number = spg_book_feed_number(book, book_len, grid, query, sizeof query, result, sizeof result);
+    if (answer.number == SPG_DONE)
+        answer.sets = spg_book_result_at(result, 0);
+    else
+        answer.place = spg_book_feed_place(book, book_len, grid, query, sizeof query, sizeof result);
+    return answer;
+}
+
 /*
  * spg_book_next_number, spg_book_next_place, spg_book_next_count: one step over a book, from the byte `at`. The caller
  * keeps the place: 0 at first, and after each step larger by the count.
