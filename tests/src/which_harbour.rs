@@ -32,13 +32,19 @@ fn which_harbour() {
     let book = sheets.map(|(number, sheet)| zone(number, sheet)).concat();
     let stops = "3 2 1 Lighthouse\n1 1 0 Old pier\n0 0 5 Pole\n1 1 -1 Open sea\n12 13\n";
     let found = "Lighthouse: inside 70 72\nOld pier: boundary 70 72\nPole: boundary 70 72 73\nOpen sea:\n";
-    // (1,1,-1) is opposite zone 73's known point.
+    // (1,1,-1) is opposite zone 73's known point; the line that is no stop comes after it.
     let refused = "refused: Open sea, zone 73: query opposite the known point (18)\n\
                    refused: '12 13' is not 'x y z name'\n";
     example.look_up(&book, "0", stops, 1, found, refused);
     let fine = "Lighthouse: inside 71\nOld pier: boundary 71\nPole: boundary 71\nOpen sea:\n";
     example.look_up(&book, "1", stops, 1, fine, "refused: '12 13' is not 'x y z name'\n");
-    example.look_up(&book, "2", "3 2 1 Lighthouse\n", 0, "Lighthouse:\n", "");
+    example.look_up(&book, "fine", stops, 1, fine, "refused: '12 13' is not 'x y z name'\n");
+    let usage = "usage: which_harbour BOOK GRID STOPS\nGRID is 0 or coarse, 1 or fine\n";
+    for grid in ["2", "", "0x", "Fine"] {
+        example.look_up(&book, grid, "3 2 1 Lighthouse\n", 2, "", usage);
+    }
+    let coarse = octant().bytes();
+    example.look_up(&coarse, "1", "3 2 1 Lighthouse\n", 1, "", "refused: book: no harbour on grid 1\n");
     example.look_up(&[], "0", "3 2 1 Lighthouse\n", 0, "Lighthouse:\n", "");
 }
 
@@ -56,10 +62,30 @@ fn which_harbour_refused() {
     example.look_up(&mixed, "0", "3 2 1 Lighthouse\n", 1, "Lighthouse: inside 9\n", refused);
     let cut = "refused: book: sheet cut short (20), byte 99\n";
     example.look_up(&book[..137], "0", "3 2 1 Lighthouse\n", 1, "", cut);
-    let long = octant().bytes().repeat(65);
-    example.look_up(&long, "0", "", 1, "", "refused: book: bytes left after 64 sheets (36), byte 4416\n");
+    let long = octant().bytes().repeat(1_025);
+    example.look_up(&long, "0", "", 1, "", "refused: book: over 1024 harbours\n");
     // More stops than one feed takes.
     let stops: String = (0..9_000).map(|k| format!("3 2 1 Stop {k}\n")).collect();
     let found: String = (0..9_000).map(|k| format!("Stop {k}: inside 9\n")).collect();
     example.look_up(&zone(9, octant()), "0", &stops, 0, &found, "");
+}
+
+/// Over 64 harbours: several books. Harbour k of 150 is the octant or the opposite one, and some are refused.
+#[test]
+fn which_harbour_many() {
+    let example = Lookup::new("which-harbour-many");
+    let opposite = Sheet::new([-1, -1, -1], &[[-1, 0, 0], [0, -1, 0], [0, 0, -1]]);
+    let sheet = |k: u32| if k % 3 == 0 { octant() } else { opposite.clone() };
+    let book: Vec<u8> = (0..150).flat_map(|k| zone(k, sheet(k))).collect();
+    let zones = |third: fn(u32) -> bool| -> String {
+        (0..150).filter(|&k| third(k)).map(|k| format!(" {k}")).collect()
+    };
+    let (octants, others) = (zones(|k| k % 3 == 0), zones(|k| k % 3 != 0));
+    let found = format!("Lighthouse: inside{octants}\nSouth: inside{others}\nPier: boundary{octants}\n");
+    example.look_up(&book, "0", "3 2 1 Lighthouse\n-3 -2 -1 South\n1 1 0 Pier\n", 0, &found, "");
+    let refused: String = (0..150)
+        .filter(|k| k % 3 != 0)
+        .map(|k| format!("refused: North, zone {k}: query opposite the known point (18)\n"))
+        .collect();
+    example.look_up(&book, "0", "1 1 1 North\n", 1, &format!("North: inside{octants}\n"), &refused);
 }
