@@ -155,15 +155,20 @@ fn install_messages() {
     assert!(goals.split(' ').all(|goal| listed.contains(goal)), "{help}");
 }
 
-/// A tree in which nothing is built says so.
+/// A tree in which nothing is built says so. With a C compiler alone, the C form is built and installed there.
 #[test]
 fn install_unbuilt() {
     let scratch = scratch("install-unbuilt");
-    let tree = scratch.path("tree");
-    let parts = ["Makefile", "packaging", "include"].map(repository);
-    fs::create_dir(&tree).expect("folder");
-    output_of(command("cp", ["-r"]).args(parts).arg(&tree), &[]);
-    let refusal = scratch.refusal(["-C", &tree, "install", "PREFIX=/nowhere", "DESTDIR="]);
+    let tree_of = scratch.path("tree");
+    let parts = ["Makefile", "packaging", "include", "portable", "man", "examples", "share"].map(repository);
+    fs::create_dir(&tree_of).expect("folder");
+    output_of(command("cp", ["-r"]).args(parts).arg(&tree_of), &[]);
+    let refusal = scratch.refusal(["-C", &tree_of, "install", "PREFIX=/nowhere", "DESTDIR="]);
     let says = "make install: target/staticlib/libspargolutta.a is not built yet. 'make lib bin' builds it";
     assert!(refusal.contains(says), "{refusal}");
+    output_of(&mut scratch.make(["-C", &tree_of, "lib-c", "bin-c", "CFLAGS=-O1"]), &[]);
+    let stage = format!("DESTDIR={}", scratch.path("stage"));
+    let told = output_of(&mut scratch.make(["-C", &tree_of, "install", "PREFIX=/usr", &stage]), &[]);
+    assert!(told.contains("the C compiler built portable/spargolutta.c"), "{told}");
+    assert_eq!(tree(&scratch.0.path("stage/usr")), expected("lib"));
 }
