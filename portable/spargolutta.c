@@ -33,10 +33,16 @@
 #pragma STDC FP_CONTRACT OFF
 #endif
 
+/* Big frames stay apart, and small functions become part of their callers, where size is not what counts. */
 #if defined(__GNUC__)
 #define APART __attribute__((noinline))
 #else
 #define APART
+#endif
+#if defined(__GNUC__) && defined(__OPTIMIZE__) && !defined(__OPTIMIZE_SIZE__) && !defined(__wasm__)
+#define INLINE inline __attribute__((always_inline))
+#else
+#define INLINE inline
 #endif
 
 /* The number that bits mean in two's complement, without what C leaves to the machine; compilers make nothing of it. */
@@ -144,9 +150,9 @@ static inline slice_uint8_t lent(const void *bytes, size_t length)
     return (slice_uint8_t){bytes == NULL ? nothing : (uint8_t *)(uintptr_t)bytes, length};
 }
 
-static inline type_cones__table__Size cones__grow__grow(uint64_t l1, slice_uint16_t l2, slice_uint16_t l3, slice_uint16_t l4, slice_uint16_t l5, type_cones__table__Cone l6, type_cones__table__Size l7);
+static type_cones__table__Size cones__grow__grow(uint64_t l1, slice_uint16_t l2, slice_uint16_t l3, slice_uint16_t l4, slice_uint16_t l5, type_cones__table__Cone l6, type_cones__table__Size l7);
 
-static inline uint64_t spargolutta__meanings__index(uint32_t l1)
+static INLINE uint64_t spargolutta__meanings__index(uint32_t l1)
 {
     uint64_t l0;
     bool l2;
@@ -159,7 +165,7 @@ static inline uint64_t spargolutta__meanings__index(uint32_t l1)
     return l0;
 }
 
-static inline uint32_t spargolutta__meanings__spg_place_kind(uint32_t l1)
+static INLINE uint32_t spargolutta__meanings__spg_place_kind(uint32_t l1)
 {
     uint32_t l0;
     array_uint32_t_38 l2;
@@ -170,7 +176,7 @@ static inline uint32_t spargolutta__meanings__spg_place_kind(uint32_t l1)
     uint32_t l7;
     l2 = (array_uint32_t_38){.e[0] = UINT32_C(6), .e[1] = UINT32_C(0), .e[2] = UINT32_C(0), .e[3] = UINT32_C(1), .e[4] = UINT32_C(0), .e[5] = UINT32_C(0), .e[6] = UINT32_C(0), .e[7] = UINT32_C(0), .e[8] = UINT32_C(0), .e[9] = UINT32_C(0), .e[10] = UINT32_C(0), .e[11] = UINT32_C(2), .e[12] = UINT32_C(2), .e[13] = UINT32_C(1), .e[14] = UINT32_C(1), .e[15] = UINT32_C(0), .e[16] = UINT32_C(1), .e[17] = UINT32_C(0), .e[18] = UINT32_C(0), .e[19] = UINT32_C(0), .e[20] = UINT32_C(3), .e[21] = UINT32_C(3), .e[22] = UINT32_C(3), .e[23] = UINT32_C(3), .e[24] = UINT32_C(3), .e[25] = UINT32_C(4), .e[26] = UINT32_C(0), .e[27] = UINT32_C(4), .e[28] = UINT32_C(0), .e[29] = UINT32_C(0), .e[30] = UINT32_C(3), .e[31] = UINT32_C(5), .e[32] = UINT32_C(0), .e[33] = UINT32_C(5), .e[34] = UINT32_C(0), .e[35] = UINT32_C(1), .e[36] = UINT32_C(3), .e[37] = UINT32_C(0)};
     l3 = spargolutta__meanings__index(l1);
-    l4 = (l3 * UINT64_C(4));
+    l4 = (l3 << 2);
     l5 = (unsigned char *)(void *)&l2;
     l6 = ((unsigned char *)(void *)l5 + (size_t)l4);
     l7 = (*(uint32_t *)(void *)l6);
@@ -178,14 +184,14 @@ static inline uint32_t spargolutta__meanings__spg_place_kind(uint32_t l1)
     return l0;
 }
 
-static inline uint64_t sphere__point__wide(uint32_t l1)
+static INLINE uint64_t sphere__point__wide(uint32_t l1)
 {
     uint64_t l0;
     l0 = (uint64_t)signed32(l1);
     return l0;
 }
 
-static inline type_sphere__point__Point spargolutta__query(uint32_t l1, uint32_t l2, uint32_t l3)
+static INLINE type_sphere__point__Point spargolutta__query(uint32_t l1, uint32_t l2, uint32_t l3)
 {
     type_sphere__point__Point l0;
     uint64_t l4;
@@ -198,14 +204,14 @@ static inline type_sphere__point__Point spargolutta__query(uint32_t l1, uint32_t
     return l0;
 }
 
-static inline uint32_t big_endian__read__wide(uint8_t l1)
+static INLINE uint32_t big_endian__read__wide(uint8_t l1)
 {
     uint32_t l0;
     l0 = (uint32_t)l1;
     return l0;
 }
 
-static inline uint32_t big_endian__read__short_at(slice_uint8_t l1, uint64_t l2)
+static INLINE uint32_t big_endian__read__short_at(slice_uint8_t l1, uint64_t l2)
 {
     uint32_t l0;
     uint32_t l3;
@@ -213,22 +219,20 @@ static inline uint32_t big_endian__read__short_at(slice_uint8_t l1, uint64_t l2)
     uint8_t l5;
     uint32_t l6;
     uint32_t l7;
-    uint64_t l8;
     unsigned char *l9;
     uint8_t l10;
     l4 = ((unsigned char *)(void *)l1.f0 + (size_t)l2);
     l5 = (*(uint8_t *)(void *)l4);
     l3 = big_endian__read__wide(l5);
-    l6 = (l3 * UINT32_C(256));
-    l8 = (l2 + UINT64_C(1));
-    l9 = ((unsigned char *)(void *)l1.f0 + (size_t)l8);
+    l6 = (l3 << 8);
+    l9 = (l4 + UINT64_C(1));
     l10 = (*(uint8_t *)(void *)l9);
     l7 = big_endian__read__wide(l10);
     l0 = (l6 + l7);
     return l0;
 }
 
-static inline bool fields__is_allowed(uint64_t l1, uint64_t l2, uint64_t l3, uint64_t l4)
+static INLINE bool fields__is_allowed(uint64_t l1, uint64_t l2, uint64_t l3, uint64_t l4)
 {
     bool l0;
     bool l5;
@@ -248,7 +252,7 @@ static inline bool fields__is_allowed(uint64_t l1, uint64_t l2, uint64_t l3, uin
     return l0;
 }
 
-static inline type_answer__Check fields__field_check(slice_uint8_t l1, uint64_t l2, uint8_t l3, uint64_t l4, uint64_t l5, uint64_t l6)
+static INLINE type_answer__Check fields__field_check(slice_uint8_t l1, uint64_t l2, uint8_t l3, uint64_t l4, uint64_t l5, uint64_t l6)
 {
     type_answer__Check l0;
     uint64_t l7;
@@ -295,7 +299,7 @@ static inline type_answer__Check fields__field_check(slice_uint8_t l1, uint64_t 
     return l0;
 }
 
-static inline uint32_t big_endian__read__byte_at(slice_uint8_t l1, uint64_t l2)
+static INLINE uint32_t big_endian__read__byte_at(slice_uint8_t l1, uint64_t l2)
 {
     uint32_t l0;
     unsigned char *l3;
@@ -306,7 +310,7 @@ static inline uint32_t big_endian__read__byte_at(slice_uint8_t l1, uint64_t l2)
     return l0;
 }
 
-static inline bool fields__is_charset(uint32_t l1)
+static INLINE bool fields__is_charset(uint32_t l1)
 {
     bool l0;
     bool l2;
@@ -319,7 +323,7 @@ static inline bool fields__is_charset(uint32_t l1)
     return l0;
 }
 
-static inline type_answer__Check fields__charset_check(slice_uint8_t l1)
+static INLINE type_answer__Check fields__charset_check(slice_uint8_t l1)
 {
     type_answer__Check l0;
     uint32_t l2;
@@ -354,7 +358,7 @@ static inline type_answer__Check fields__charset_check(slice_uint8_t l1)
     return l0;
 }
 
-static inline uint64_t fields__known_start(slice_uint8_t l1)
+static INLINE uint64_t fields__known_start(slice_uint8_t l1)
 {
     uint64_t l0;
     uint64_t l2;
@@ -369,7 +373,7 @@ static inline uint64_t fields__known_start(slice_uint8_t l1)
     return l0;
 }
 
-static inline type_sphere__point__Grid fields__grid_at(slice_uint8_t l1, uint64_t l2)
+static INLINE type_sphere__point__Grid fields__grid_at(slice_uint8_t l1, uint64_t l2)
 {
     type_sphere__point__Grid l0;
     uint64_t l3;
@@ -392,7 +396,7 @@ static inline type_sphere__point__Grid fields__grid_at(slice_uint8_t l1, uint64_
     return l0;
 }
 
-static inline uint8_t fields__tag(type_sphere__point__Grid l1)
+static INLINE uint8_t fields__tag(type_sphere__point__Grid l1)
 {
     uint8_t l0;
     uint8_t l2;
@@ -410,7 +414,7 @@ static inline uint8_t fields__tag(type_sphere__point__Grid l1)
     return l0;
 }
 
-static inline type_answer__Check fields__five_fields(slice_uint8_t l1)
+static INLINE type_answer__Check fields__five_fields(slice_uint8_t l1)
 {
     type_answer__Check l0;
     uint32_t l2;
@@ -489,7 +493,7 @@ static inline type_answer__Check fields__five_fields(slice_uint8_t l1)
     return l0;
 }
 
-static inline uint64_t fields__vertices_start(slice_uint8_t l1)
+static INLINE uint64_t fields__vertices_start(slice_uint8_t l1)
 {
     uint64_t l0;
     uint64_t l2;
@@ -498,7 +502,7 @@ static inline uint64_t fields__vertices_start(slice_uint8_t l1)
     return l0;
 }
 
-static inline uint64_t fields__second_start(slice_uint8_t l1)
+static INLINE uint64_t fields__second_start(slice_uint8_t l1)
 {
     uint64_t l0;
     uint64_t l2;
@@ -515,7 +519,7 @@ static inline uint64_t fields__second_start(slice_uint8_t l1)
     return l0;
 }
 
-static inline bool fields__has_second(slice_uint8_t l1)
+static INLINE bool fields__has_second(slice_uint8_t l1)
 {
     bool l0;
     uint64_t l2;
@@ -536,7 +540,7 @@ static inline bool fields__has_second(slice_uint8_t l1)
     return l0;
 }
 
-static inline type_answer__Check fields__second_field(slice_uint8_t l1)
+static INLINE type_answer__Check fields__second_field(slice_uint8_t l1)
 {
     type_answer__Check l0;
     bool l2;
@@ -551,7 +555,7 @@ static inline type_answer__Check fields__second_field(slice_uint8_t l1)
     return l0;
 }
 
-static inline type_answer__Check fields__sheet_fields(slice_uint8_t l1)
+static type_answer__Check fields__sheet_fields(slice_uint8_t l1)
 {
     type_answer__Check l0;
     uint32_t l2;
@@ -574,7 +578,7 @@ static inline type_answer__Check fields__sheet_fields(slice_uint8_t l1)
     return l0;
 }
 
-static inline uint64_t fields__sheet_end(slice_uint8_t l1)
+static INLINE uint64_t fields__sheet_end(slice_uint8_t l1)
 {
     uint64_t l0;
     uint64_t l2;
@@ -589,7 +593,7 @@ static inline uint64_t fields__sheet_end(slice_uint8_t l1)
     return l0;
 }
 
-static inline type_answer__Check fields__fields_check(slice_uint8_t l1)
+static INLINE type_answer__Check fields__fields_check(slice_uint8_t l1)
 {
     type_answer__Check l0;
     uint32_t l2;
@@ -622,7 +626,7 @@ static inline type_answer__Check fields__fields_check(slice_uint8_t l1)
     return l0;
 }
 
-static inline type_sheet__open__Opened sheet__open__refused(uint32_t l1, uint64_t l2)
+static INLINE type_sheet__open__Opened sheet__open__refused(uint32_t l1, uint64_t l2)
 {
     type_sheet__open__Opened l0;
     type_answer__Check l3;
@@ -637,7 +641,7 @@ static inline type_sheet__open__Opened sheet__open__refused(uint32_t l1, uint64_
     return l0;
 }
 
-static inline type_sphere__point__Grid fields__grid(slice_uint8_t l1)
+static INLINE type_sphere__point__Grid fields__grid(slice_uint8_t l1)
 {
     type_sphere__point__Grid l0;
     uint64_t l2;
@@ -646,7 +650,7 @@ static inline type_sphere__point__Grid fields__grid(slice_uint8_t l1)
     return l0;
 }
 
-static inline uint32_t big_endian__read__word_at(slice_uint8_t l1, uint64_t l2)
+static INLINE uint32_t big_endian__read__word_at(slice_uint8_t l1, uint64_t l2)
 {
     uint32_t l0;
     uint32_t l3;
@@ -654,46 +658,40 @@ static inline uint32_t big_endian__read__word_at(slice_uint8_t l1, uint64_t l2)
     uint8_t l5;
     uint32_t l6;
     uint32_t l7;
-    uint64_t l8;
     unsigned char *l9;
     uint8_t l10;
     uint32_t l11;
     uint32_t l12;
     uint32_t l13;
-    uint64_t l14;
     unsigned char *l15;
     uint8_t l16;
     uint32_t l17;
     uint32_t l18;
     uint32_t l19;
-    uint64_t l20;
     unsigned char *l21;
     uint8_t l22;
     l4 = ((unsigned char *)(void *)l1.f0 + (size_t)l2);
     l5 = (*(uint8_t *)(void *)l4);
     l3 = big_endian__read__wide(l5);
-    l6 = (l3 * UINT32_C(16777216));
-    l8 = (l2 + UINT64_C(1));
-    l9 = ((unsigned char *)(void *)l1.f0 + (size_t)l8);
+    l6 = (l3 << 24);
+    l9 = (l4 + UINT64_C(1));
     l10 = (*(uint8_t *)(void *)l9);
     l7 = big_endian__read__wide(l10);
-    l11 = (l7 * UINT32_C(65536));
+    l11 = (l7 << 16);
     l12 = (l6 + l11);
-    l14 = (l2 + UINT64_C(2));
-    l15 = ((unsigned char *)(void *)l1.f0 + (size_t)l14);
+    l15 = (l4 + UINT64_C(2));
     l16 = (*(uint8_t *)(void *)l15);
     l13 = big_endian__read__wide(l16);
-    l17 = (l13 * UINT32_C(256));
+    l17 = (l13 << 8);
     l18 = (l12 + l17);
-    l20 = (l2 + UINT64_C(3));
-    l21 = ((unsigned char *)(void *)l1.f0 + (size_t)l20);
+    l21 = (l4 + UINT64_C(3));
     l22 = (*(uint8_t *)(void *)l21);
     l19 = big_endian__read__wide(l22);
     l0 = (l18 + l19);
     return l0;
 }
 
-static inline uint32_t big_endian__read__to_signed(uint32_t l1)
+static INLINE uint32_t big_endian__read__to_signed(uint32_t l1)
 {
     uint32_t l0;
     bool l2;
@@ -712,7 +710,7 @@ static inline uint32_t big_endian__read__to_signed(uint32_t l1)
     return l0;
 }
 
-static inline uint32_t big_endian__read__int_at(slice_uint8_t l1, uint64_t l2)
+static INLINE uint32_t big_endian__read__int_at(slice_uint8_t l1, uint64_t l2)
 {
     uint32_t l0;
     uint32_t l3;
@@ -721,7 +719,7 @@ static inline uint32_t big_endian__read__int_at(slice_uint8_t l1, uint64_t l2)
     return l0;
 }
 
-static inline uint64_t big_endian__read__coordinate_at(slice_uint8_t l1, uint64_t l2)
+static INLINE uint64_t big_endian__read__coordinate_at(slice_uint8_t l1, uint64_t l2)
 {
     uint64_t l0;
     uint32_t l3;
@@ -730,7 +728,7 @@ static inline uint64_t big_endian__read__coordinate_at(slice_uint8_t l1, uint64_
     return l0;
 }
 
-static inline type_sphere__point__Point big_endian__read__point_at(slice_uint8_t l1, uint64_t l2)
+static INLINE type_sphere__point__Point big_endian__read__point_at(slice_uint8_t l1, uint64_t l2)
 {
     type_sphere__point__Point l0;
     uint64_t l3;
@@ -747,7 +745,7 @@ static inline type_sphere__point__Point big_endian__read__point_at(slice_uint8_t
     return l0;
 }
 
-static inline type_sphere__point__Point sheet__open__known_point(slice_uint8_t l1)
+static INLINE type_sphere__point__Point sheet__open__known_point(slice_uint8_t l1)
 {
     type_sphere__point__Point l0;
     uint64_t l2;
@@ -758,7 +756,7 @@ static inline type_sphere__point__Point sheet__open__known_point(slice_uint8_t l
     return l0;
 }
 
-static inline type_sphere__point__Point sheet__open__second_point(slice_uint8_t l1)
+static INLINE type_sphere__point__Point sheet__open__second_point(slice_uint8_t l1)
 {
     type_sphere__point__Point l0;
     bool l2;
@@ -775,7 +773,7 @@ static inline type_sphere__point__Point sheet__open__second_point(slice_uint8_t 
     return l0;
 }
 
-static inline uint64_t sheet__open__vertex_count(slice_uint8_t l1)
+static INLINE uint64_t sheet__open__vertex_count(slice_uint8_t l1)
 {
     uint64_t l0;
     uint32_t l2;
@@ -790,7 +788,7 @@ static inline uint64_t sheet__open__vertex_count(slice_uint8_t l1)
     return l0;
 }
 
-static inline type_sheet__open__Opened sheet__open__points(slice_uint8_t l1)
+static type_sheet__open__Opened sheet__open__points(slice_uint8_t l1)
 {
     type_sheet__open__Opened l0;
     type_answer__Check l2;
@@ -807,7 +805,7 @@ static inline type_sheet__open__Opened sheet__open__points(slice_uint8_t l1)
     return l0;
 }
 
-static inline void big_endian__read__decode_four(slice_uint8_t l1, uint64_t l2, uint64_t l3, slice_uint32_t l4)
+static INLINE void big_endian__read__decode_four(slice_uint8_t l1, uint64_t l2, uint64_t l3, slice_uint32_t l4)
 {
     uint64_t l5;
     uint64_t l6;
@@ -818,34 +816,34 @@ static inline void big_endian__read__decode_four(slice_uint8_t l1, uint64_t l2, 
     unsigned char *l11;
     unsigned char *l12;
     unsigned char *l13;
-    l6 = (l3 * UINT64_C(4));
+    l6 = (l3 << 2);
     l5 = (l2 + l6);
     l7 = big_endian__read__int_at(l1, l5);
-    l6 = (l3 * UINT64_C(4));
+    l6 = (l3 << 2);
     l8 = ((unsigned char *)(void *)l4.f0 + (size_t)l6);
     (*(uint32_t *)(void *)l8) = l7;
     l6 = (l5 + UINT64_C(4));
     l7 = big_endian__read__int_at(l1, l6);
     l9 = (l3 + UINT64_C(1));
-    l10 = (l9 * UINT64_C(4));
+    l10 = (l9 << 2);
     l11 = ((unsigned char *)(void *)l4.f0 + (size_t)l10);
     (*(uint32_t *)(void *)l11) = l7;
     l10 = (l5 + UINT64_C(8));
     l7 = big_endian__read__int_at(l1, l10);
     l9 = (l3 + UINT64_C(2));
-    l6 = (l9 * UINT64_C(4));
+    l6 = (l9 << 2);
     l12 = ((unsigned char *)(void *)l4.f0 + (size_t)l6);
     (*(uint32_t *)(void *)l12) = l7;
     l6 = (l5 + UINT64_C(12));
     l7 = big_endian__read__int_at(l1, l6);
     l9 = (l3 + UINT64_C(3));
-    l10 = (l9 * UINT64_C(4));
+    l10 = (l9 << 2);
     l13 = ((unsigned char *)(void *)l4.f0 + (size_t)l10);
     (*(uint32_t *)(void *)l13) = l7;
     return;
 }
 
-static inline void big_endian__read__decode(slice_uint8_t l1, uint64_t l2, uint64_t l3, slice_uint32_t l4)
+static void big_endian__read__decode(slice_uint8_t l1, uint64_t l2, uint64_t l3, slice_uint32_t l4)
 {
     uint64_t l5;
     uint64_t l6;
@@ -871,11 +869,11 @@ static inline void big_endian__read__decode(slice_uint8_t l1, uint64_t l2, uint6
         } else {
             goto exit0;
         }
-        l10 = (l6 * UINT64_C(8));
+        l10 = (l6 << 3);
         l11 = (uint32_t *)(void *)&(*l4.f0);
         l12 = (slice_uint32_t){.f0 = l11, .f1 = l4.f1};
         big_endian__read__decode_four(l1, l2, l10, l12);
-        l10 = (l6 * UINT64_C(8));
+        l10 = (l6 << 3);
         l13 = (l10 + UINT64_C(4));
         l14 = (uint32_t *)(void *)&(*l4.f0);
         l15 = (slice_uint32_t){.f0 = l14, .f1 = l4.f1};
@@ -883,17 +881,17 @@ static inline void big_endian__read__decode(slice_uint8_t l1, uint64_t l2, uint6
         l6 = (l6 + UINT64_C(1));
     }
 exit0:;
-    l7 = (l5 * UINT64_C(8));
+    l7 = (l5 << 3);
     for (;;) {
         l16 = (l7 < l3);
         if (l16) {
         } else {
             goto exit1;
         }
-        l18 = (l7 * UINT64_C(4));
+        l18 = (l7 << 2);
         l19 = (l2 + l18);
         l17 = big_endian__read__int_at(l1, l19);
-        l20 = (l7 * UINT64_C(4));
+        l20 = (l7 << 2);
         l21 = ((unsigned char *)(void *)l4.f0 + (size_t)l20);
         (*(uint32_t *)(void *)l21) = l17;
         l7 = (l7 + UINT64_C(1));
@@ -902,7 +900,7 @@ exit1:;
     return;
 }
 
-static inline void sheet__open__decode_vertices(slice_uint8_t l1, uint64_t l2, slice_uint32_t l3)
+static INLINE void sheet__open__decode_vertices(slice_uint8_t l1, uint64_t l2, slice_uint32_t l3)
 {
     uint64_t l5;
     uint64_t l6;
@@ -918,7 +916,7 @@ static inline void sheet__open__decode_vertices(slice_uint8_t l1, uint64_t l2, s
     return;
 }
 
-static inline type_answer__Check polygon__checks__list_check(slice_uint32_t l1)
+static INLINE type_answer__Check polygon__checks__list_check(slice_uint32_t l1)
 {
     type_answer__Check l0;
     uint64_t l2;
@@ -948,20 +946,20 @@ static inline type_answer__Check polygon__checks__list_check(slice_uint32_t l1)
     return l0;
 }
 
-static inline uint64_t polygon__vertices__number_at(slice_uint32_t l1, uint64_t l2)
+static INLINE uint64_t polygon__vertices__number_at(slice_uint32_t l1, uint64_t l2)
 {
     uint64_t l0;
     uint64_t l3;
     unsigned char *l4;
     uint32_t l5;
-    l3 = (l2 * UINT64_C(4));
+    l3 = (l2 << 2);
     l4 = ((unsigned char *)(void *)l1.f0 + (size_t)l3);
     l5 = (*(uint32_t *)(void *)l4);
     l0 = sphere__point__wide(l5);
     return l0;
 }
 
-static inline uint64_t sphere__point__limit(type_sphere__point__Grid l1)
+static INLINE uint64_t sphere__point__limit(type_sphere__point__Grid l1)
 {
     uint64_t l0;
     uint64_t l2;
@@ -979,7 +977,7 @@ static inline uint64_t sphere__point__limit(type_sphere__point__Grid l1)
     return l0;
 }
 
-static inline bool sphere__point__is_far(type_sphere__point__Grid l1, uint64_t l2)
+static INLINE bool sphere__point__is_far(type_sphere__point__Grid l1, uint64_t l2)
 {
     bool l0;
     uint64_t l3;
@@ -996,7 +994,7 @@ static inline bool sphere__point__is_far(type_sphere__point__Grid l1, uint64_t l
     return l0;
 }
 
-static inline uint32_t polygon__checks__far_at(type_sphere__point__Grid l1, slice_uint32_t l2, uint64_t l3)
+static INLINE uint32_t polygon__checks__far_at(type_sphere__point__Grid l1, slice_uint32_t l2, uint64_t l3)
 {
     uint32_t l0;
     bool l4;
@@ -1011,7 +1009,7 @@ static inline uint32_t polygon__checks__far_at(type_sphere__point__Grid l1, slic
     return l0;
 }
 
-static inline uint32_t polygon__checks__count_far(type_sphere__point__Grid l1, slice_uint32_t l2)
+static INLINE uint32_t polygon__checks__count_far_either(type_sphere__point__Grid l1, slice_uint32_t l2)
 {
     uint32_t l0;
     uint32_t l3;
@@ -1037,7 +1035,12 @@ exit0:;
     return l0;
 }
 
-static inline bool polygon__checks__is_near(type_sphere__point__Grid l1, slice_uint32_t l2)
+static INLINE uint32_t polygon__checks__count_far(type_sphere__point__Grid l1, slice_uint32_t l2)
+{
+    return l1.tag == 0 ? polygon__checks__count_far_either((type_sphere__point__Grid){.tag = 0}, l2) : polygon__checks__count_far_either((type_sphere__point__Grid){.tag = 1}, l2);
+}
+
+static INLINE bool polygon__checks__is_near(type_sphere__point__Grid l1, slice_uint32_t l2)
 {
     bool l0;
     bool l3;
@@ -1063,7 +1066,7 @@ static inline bool polygon__checks__is_near(type_sphere__point__Grid l1, slice_u
     return l0;
 }
 
-static inline bool sphere__point__is_beyond(type_sphere__point__Grid l1, type_sphere__point__Point l2)
+static INLINE bool sphere__point__is_beyond(type_sphere__point__Grid l1, type_sphere__point__Point l2)
 {
     bool l0;
     uint64_t l3;
@@ -1088,7 +1091,7 @@ static inline bool sphere__point__is_beyond(type_sphere__point__Grid l1, type_sp
     return l0;
 }
 
-static inline bool sphere__point__is_null(type_sphere__point__Point l1)
+static INLINE bool sphere__point__is_null(type_sphere__point__Point l1)
 {
     bool l0;
     uint64_t l2;
@@ -1112,7 +1115,7 @@ static inline bool sphere__point__is_null(type_sphere__point__Point l1)
     return l0;
 }
 
-static inline bool sphere__point__is_off_grid(type_sphere__point__Grid l1, type_sphere__point__Point l2)
+static INLINE bool sphere__point__is_off_grid(type_sphere__point__Grid l1, type_sphere__point__Point l2)
 {
     bool l0;
     bool l3;
@@ -1125,7 +1128,7 @@ static inline bool sphere__point__is_off_grid(type_sphere__point__Grid l1, type_
     return l0;
 }
 
-static inline type_answer__Check answer__fails_if(uint32_t l1, bool l2)
+static INLINE type_answer__Check answer__fails_if(uint32_t l1, bool l2)
 {
     type_answer__Check l0;
     bool l3;
@@ -1138,7 +1141,7 @@ static inline type_answer__Check answer__fails_if(uint32_t l1, bool l2)
     return l0;
 }
 
-static inline type_answer__Check polygon__checks__reference_check(type_sphere__point__Grid l1, type_sphere__point__Point l2)
+static INLINE type_answer__Check polygon__checks__reference_check(type_sphere__point__Grid l1, type_sphere__point__Point l2)
 {
     type_answer__Check l0;
     bool l3;
@@ -1147,7 +1150,7 @@ static inline type_answer__Check polygon__checks__reference_check(type_sphere__p
     return l0;
 }
 
-static inline type_sphere__point__Point polygon__vertices__vertex_at(slice_uint32_t l1, uint64_t l2)
+static INLINE type_sphere__point__Point polygon__vertices__vertex_at(slice_uint32_t l1, uint64_t l2)
 {
     type_sphere__point__Point l0;
     uint64_t l3;
@@ -1165,7 +1168,7 @@ static inline type_sphere__point__Point polygon__vertices__vertex_at(slice_uint3
     return l0;
 }
 
-static inline type_sphere__point__Point sphere__orientation__cross(type_sphere__point__Point l1, type_sphere__point__Point l2)
+static INLINE type_sphere__point__Point sphere__orientation__cross(type_sphere__point__Point l1, type_sphere__point__Point l2)
 {
     type_sphere__point__Point l0;
     uint64_t l3;
@@ -1202,14 +1205,14 @@ static inline type_sphere__point__Point sphere__orientation__cross(type_sphere__
     return l0;
 }
 
-static inline double sphere__approximate__to_float(uint64_t l1)
+static INLINE double sphere__approximate__to_float(uint64_t l1)
 {
     double l0;
     l0 = (double)signed64(l1);
     return l0;
 }
 
-static inline double sphere__approximate__minor(uint64_t l1, uint64_t l2, uint64_t l3, uint64_t l4)
+static INLINE double sphere__approximate__minor(uint64_t l1, uint64_t l2, uint64_t l3, uint64_t l4)
 {
     double l0;
     double l5;
@@ -1228,7 +1231,7 @@ static inline double sphere__approximate__minor(uint64_t l1, uint64_t l2, uint64
     return l0;
 }
 
-static inline type_sphere__approximate__Vector sphere__approximate__float_cross(type_sphere__point__Point l1, type_sphere__point__Point l2)
+static INLINE type_sphere__approximate__Vector sphere__approximate__float_cross(type_sphere__point__Point l1, type_sphere__point__Point l2)
 {
     type_sphere__approximate__Vector l0;
     double l3;
@@ -1241,7 +1244,7 @@ static inline type_sphere__approximate__Vector sphere__approximate__float_cross(
     return l0;
 }
 
-static inline type_sphere__approximate__Vector sphere__plane__floats_for(type_sphere__point__Grid l1, type_sphere__point__Point l2, type_sphere__point__Point l3)
+static INLINE type_sphere__approximate__Vector sphere__plane__floats_for(type_sphere__point__Grid l1, type_sphere__point__Point l2, type_sphere__point__Point l3)
 {
     type_sphere__approximate__Vector l0;
     type_sphere__approximate__Vector l4;
@@ -1259,7 +1262,7 @@ static inline type_sphere__approximate__Vector sphere__plane__floats_for(type_sp
     return l0;
 }
 
-static inline type_sphere__plane__Plane sphere__plane__plane_through(type_sphere__point__Grid l1, type_sphere__point__Point l2, type_sphere__point__Point l3)
+static INLINE type_sphere__plane__Plane sphere__plane__plane_through(type_sphere__point__Grid l1, type_sphere__point__Point l2, type_sphere__point__Point l3)
 {
     type_sphere__plane__Plane l0;
     type_sphere__point__Point l4;
@@ -1270,7 +1273,7 @@ static inline type_sphere__plane__Plane sphere__plane__plane_through(type_sphere
     return l0;
 }
 
-static inline uint64_t sphere__orientation__dot(type_sphere__point__Point l1, type_sphere__point__Point l2)
+static INLINE uint64_t sphere__orientation__dot(type_sphere__point__Point l1, type_sphere__point__Point l2)
 {
     uint64_t l0;
     uint64_t l3;
@@ -1297,7 +1300,7 @@ static inline uint64_t sphere__orientation__dot(type_sphere__point__Point l1, ty
     return l0;
 }
 
-static inline double sphere__approximate__float_dot(type_sphere__approximate__Vector l1, type_sphere__point__Point l2)
+static INLINE double sphere__approximate__float_dot(type_sphere__approximate__Vector l1, type_sphere__point__Point l2)
 {
     double l0;
     double l3;
@@ -1318,7 +1321,7 @@ static inline double sphere__approximate__float_dot(type_sphere__approximate__Ve
     return l0;
 }
 
-static inline type_sphere__approximate__Filtered sphere__approximate__filter(double l1)
+static INLINE type_sphere__approximate__Filtered sphere__approximate__filter(double l1)
 {
     type_sphere__approximate__Filtered l0;
     double l2;
@@ -1338,7 +1341,7 @@ static inline type_sphere__approximate__Filtered sphere__approximate__filter(dou
     return l0;
 }
 
-static inline uint64_t sphere__plane__float_side(double l1)
+static INLINE uint64_t sphere__plane__float_side(double l1)
 {
     uint64_t l0;
     bool l2;
@@ -1351,7 +1354,7 @@ static inline uint64_t sphere__plane__float_side(double l1)
     return l0;
 }
 
-static inline type_sphere__point__Point sphere__words__high_part(type_sphere__point__Point l1)
+static INLINE type_sphere__point__Point sphere__words__high_part(type_sphere__point__Point l1)
 {
     type_sphere__point__Point l0;
     uint64_t l2;
@@ -1364,7 +1367,7 @@ static inline type_sphere__point__Point sphere__words__high_part(type_sphere__po
     return l0;
 }
 
-static inline type_sphere__point__Point sphere__words__low_part(type_sphere__point__Point l1)
+static INLINE type_sphere__point__Point sphere__words__low_part(type_sphere__point__Point l1)
 {
     type_sphere__point__Point l0;
     uint64_t l2;
@@ -1377,7 +1380,7 @@ static inline type_sphere__point__Point sphere__words__low_part(type_sphere__poi
     return l0;
 }
 
-static inline type_sphere__words__Words sphere__words__word_dot(type_sphere__point__Point l1, type_sphere__point__Point l2)
+static INLINE type_sphere__words__Words sphere__words__word_dot(type_sphere__point__Point l1, type_sphere__point__Point l2)
 {
     type_sphere__words__Words l0;
     uint64_t l3;
@@ -1392,7 +1395,7 @@ static inline type_sphere__words__Words sphere__words__word_dot(type_sphere__poi
     return l0;
 }
 
-static inline uint64_t sphere__words__word_side(type_sphere__words__Words l1)
+static INLINE uint64_t sphere__words__word_side(type_sphere__words__Words l1)
 {
     uint64_t l0;
     uint64_t l2;
@@ -1409,7 +1412,7 @@ static inline uint64_t sphere__words__word_side(type_sphere__words__Words l1)
     return l0;
 }
 
-static inline uint64_t sphere__plane__fine_side(type_sphere__point__Point l1, type_sphere__approximate__Vector l2, type_sphere__point__Point l3)
+static INLINE uint64_t sphere__plane__fine_side(type_sphere__point__Point l1, type_sphere__approximate__Vector l2, type_sphere__point__Point l3)
 {
     uint64_t l0;
     double l4;
@@ -1435,7 +1438,7 @@ static inline uint64_t sphere__plane__fine_side(type_sphere__point__Point l1, ty
     return l0;
 }
 
-static inline uint64_t sphere__plane__side_of(type_sphere__plane__Plane l1, type_sphere__point__Point l2)
+static INLINE uint64_t sphere__plane__side_of(type_sphere__plane__Plane l1, type_sphere__point__Point l2)
 {
     uint64_t l0;
     type_sphere__point__Grid l3;
@@ -1455,7 +1458,7 @@ static inline uint64_t sphere__plane__side_of(type_sphere__plane__Plane l1, type
     return l0;
 }
 
-static inline bool polygon__checks__is_level(type_sphere__plane__Plane l1, type_sphere__point__Point l2)
+static INLINE bool polygon__checks__is_level(type_sphere__plane__Plane l1, type_sphere__point__Point l2)
 {
     bool l0;
     uint64_t l3;
@@ -1464,7 +1467,7 @@ static inline bool polygon__checks__is_level(type_sphere__plane__Plane l1, type_
     return l0;
 }
 
-static inline uint64_t polygon__vertices__next_of(uint64_t l1, uint64_t l2)
+static INLINE uint64_t polygon__vertices__next_of(uint64_t l1, uint64_t l2)
 {
     uint64_t l0;
     uint64_t l3;
@@ -1479,7 +1482,7 @@ static inline uint64_t polygon__vertices__next_of(uint64_t l1, uint64_t l2)
     return l0;
 }
 
-static inline type_sphere__point__Point polygon__vertices__end_of(slice_uint32_t l1, uint64_t l2)
+static INLINE type_sphere__point__Point polygon__vertices__end_of(slice_uint32_t l1, uint64_t l2)
 {
     type_sphere__point__Point l0;
     uint64_t l3;
@@ -1492,7 +1495,7 @@ static inline type_sphere__point__Point polygon__vertices__end_of(slice_uint32_t
     return l0;
 }
 
-static inline uint64_t sphere__plane__turn(type_sphere__point__Grid l1, type_sphere__point__Point l2, type_sphere__point__Point l3, type_sphere__point__Point l4)
+static INLINE uint64_t sphere__plane__turn(type_sphere__point__Grid l1, type_sphere__point__Point l2, type_sphere__point__Point l3, type_sphere__point__Point l4)
 {
     uint64_t l0;
     type_sphere__plane__Plane l5;
@@ -1501,7 +1504,7 @@ static inline uint64_t sphere__plane__turn(type_sphere__point__Grid l1, type_sph
     return l0;
 }
 
-static inline bool sphere__edge__on_circle(type_sphere__point__Grid l1, type_sphere__point__Point l2, type_sphere__point__Point l3, type_sphere__point__Point l4)
+static INLINE bool sphere__edge__on_circle(type_sphere__point__Grid l1, type_sphere__point__Point l2, type_sphere__point__Point l3, type_sphere__point__Point l4)
 {
     bool l0;
     uint64_t l5;
@@ -1510,7 +1513,7 @@ static inline bool sphere__edge__on_circle(type_sphere__point__Grid l1, type_sph
     return l0;
 }
 
-static inline bool polygon__checks__off_each(type_sphere__point__Grid l1, slice_uint32_t l2, type_sphere__point__Point l3)
+static INLINE bool polygon__checks__off_each_either(type_sphere__point__Grid l1, slice_uint32_t l2, type_sphere__point__Point l3)
 {
     bool l0;
     uint64_t l4;
@@ -1578,7 +1581,12 @@ exit1:;
     return l0;
 }
 
-static inline bool polygon__checks__off_circles(type_sphere__point__Grid l1, slice_uint32_t l2, type_sphere__point__Point l3)
+static bool polygon__checks__off_each(type_sphere__point__Grid l1, slice_uint32_t l2, type_sphere__point__Point l3)
+{
+    return l1.tag == 0 ? polygon__checks__off_each_either((type_sphere__point__Grid){.tag = 0}, l2, l3) : polygon__checks__off_each_either((type_sphere__point__Grid){.tag = 1}, l2, l3);
+}
+
+static INLINE bool polygon__checks__off_circles(type_sphere__point__Grid l1, slice_uint32_t l2, type_sphere__point__Point l3)
 {
     bool l0;
     bool l4;
@@ -1600,7 +1608,7 @@ static inline bool polygon__checks__off_circles(type_sphere__point__Grid l1, sli
     return l0;
 }
 
-static inline bool polygon__checks__accepts(type_sphere__point__Grid l1, slice_uint32_t l2, type_sphere__point__Point l3)
+static INLINE bool polygon__checks__accepts(type_sphere__point__Grid l1, slice_uint32_t l2, type_sphere__point__Point l3)
 {
     bool l0;
     type_answer__Check l4;
@@ -1619,7 +1627,7 @@ static inline bool polygon__checks__accepts(type_sphere__point__Grid l1, slice_u
     return l0;
 }
 
-static inline bool polygon__checks__is_accepted(type_sphere__point__Grid l1, slice_uint32_t l2, type_sphere__point__Point l3)
+static INLINE bool polygon__checks__is_accepted(type_sphere__point__Grid l1, slice_uint32_t l2, type_sphere__point__Point l3)
 {
     bool l0;
     type_answer__Check l4;
@@ -1644,7 +1652,7 @@ static inline bool polygon__checks__is_accepted(type_sphere__point__Grid l1, sli
     return l0;
 }
 
-static inline bool sphere__direction__parallel(type_sphere__point__Point l1, type_sphere__point__Point l2)
+static INLINE bool sphere__direction__parallel(type_sphere__point__Point l1, type_sphere__point__Point l2)
 {
     bool l0;
     type_sphere__point__Point l3;
@@ -1653,7 +1661,7 @@ static inline bool sphere__direction__parallel(type_sphere__point__Point l1, typ
     return l0;
 }
 
-static inline bool sphere__direction__same_direction(type_sphere__point__Point l1, type_sphere__point__Point l2)
+static INLINE bool sphere__direction__same_direction(type_sphere__point__Point l1, type_sphere__point__Point l2)
 {
     bool l0;
     bool l3;
@@ -1668,7 +1676,7 @@ static inline bool sphere__direction__same_direction(type_sphere__point__Point l
     return l0;
 }
 
-static inline bool sphere__direction__antipodal(type_sphere__point__Point l1, type_sphere__point__Point l2)
+static INLINE bool sphere__direction__antipodal(type_sphere__point__Point l1, type_sphere__point__Point l2)
 {
     bool l0;
     bool l3;
@@ -1683,7 +1691,7 @@ static inline bool sphere__direction__antipodal(type_sphere__point__Point l1, ty
     return l0;
 }
 
-static inline bool polygon__checks__refuses(type_polygon__checks__Line l1, type_sphere__point__Grid l2, slice_uint32_t l3, uint64_t l4)
+static bool polygon__checks__refuses(type_polygon__checks__Line l1, type_sphere__point__Grid l2, slice_uint32_t l3, uint64_t l4)
 {
     bool l0;
     type_sphere__point__Point l5;
@@ -1745,7 +1753,7 @@ static inline bool polygon__checks__refuses(type_polygon__checks__Line l1, type_
     return l0;
 }
 
-static inline uint32_t polygon__checks__line_number(type_polygon__checks__Line l1)
+static INLINE uint32_t polygon__checks__line_number(type_polygon__checks__Line l1)
 {
     uint32_t l0;
     uint32_t l2;
@@ -1779,7 +1787,7 @@ static inline uint32_t polygon__checks__line_number(type_polygon__checks__Line l
     return l0;
 }
 
-static inline type_answer__Check polygon__checks__line_check(type_polygon__checks__Line l1, type_sphere__point__Grid l2, slice_uint32_t l3)
+static INLINE type_answer__Check polygon__checks__line_check_either(type_polygon__checks__Line l1, type_sphere__point__Grid l2, slice_uint32_t l3)
 {
     type_answer__Check l0;
     uint64_t l4;
@@ -1810,7 +1818,12 @@ exit0:;
     return l0;
 }
 
-static inline type_answer__Check polygon__checks__polygon_check(type_sphere__point__Grid l1, slice_uint32_t l2)
+static INLINE type_answer__Check polygon__checks__line_check(type_polygon__checks__Line l1, type_sphere__point__Grid l2, slice_uint32_t l3)
+{
+    return l2.tag == 0 ? polygon__checks__line_check_either(l1, (type_sphere__point__Grid){.tag = 0}, l3) : polygon__checks__line_check_either(l1, (type_sphere__point__Grid){.tag = 1}, l3);
+}
+
+static INLINE type_answer__Check polygon__checks__polygon_check(type_sphere__point__Grid l1, slice_uint32_t l2)
 {
     type_answer__Check l0;
     uint32_t l3;
@@ -1886,7 +1899,7 @@ static inline type_answer__Check polygon__checks__polygon_check(type_sphere__poi
     return l0;
 }
 
-static inline type_answer__Check polygon__checks__circle_check(type_sphere__point__Grid l1, slice_uint32_t l2, type_sphere__point__Point l3)
+static INLINE type_answer__Check polygon__checks__circle_check(type_sphere__point__Grid l1, slice_uint32_t l2, type_sphere__point__Point l3)
 {
     type_answer__Check l0;
     type_answer__Check l4;
@@ -1908,7 +1921,7 @@ static inline type_answer__Check polygon__checks__circle_check(type_sphere__poin
     return l0;
 }
 
-static inline type_answer__Check polygon__checks__accept_check(type_sphere__point__Grid l1, slice_uint32_t l2, type_sphere__point__Point l3)
+static type_answer__Check polygon__checks__accept_check(type_sphere__point__Grid l1, slice_uint32_t l2, type_sphere__point__Point l3)
 {
     type_answer__Check l0;
     uint32_t l4;
@@ -1953,7 +1966,7 @@ static inline type_answer__Check polygon__checks__accept_check(type_sphere__poin
     return l0;
 }
 
-static inline uint64_t search__boxes__run_count(uint64_t l1)
+static INLINE uint64_t search__boxes__run_count(uint64_t l1)
 {
     uint64_t l0;
     uint64_t l2;
@@ -1962,13 +1975,13 @@ static inline uint64_t search__boxes__run_count(uint64_t l1)
     return l0;
 }
 
-static inline uint64_t search__boxes__run_end(uint64_t l1, uint64_t l2)
+static INLINE uint64_t search__boxes__run_end(uint64_t l1, uint64_t l2)
 {
     uint64_t l0;
     uint64_t l3;
     uint64_t l4;
     bool l5;
-    l4 = (l2 * UINT64_C(32));
+    l4 = (l2 << 5);
     l3 = (l4 + UINT64_C(32));
     l5 = (l3 < l1);
     if (l5) {
@@ -1979,7 +1992,7 @@ static inline uint64_t search__boxes__run_end(uint64_t l1, uint64_t l2)
     return l0;
 }
 
-static inline uint64_t search__boxes__lesser(uint64_t l1, uint64_t l2)
+static INLINE uint64_t search__boxes__lesser(uint64_t l1, uint64_t l2)
 {
     uint64_t l0;
     bool l3;
@@ -1992,7 +2005,7 @@ static inline uint64_t search__boxes__lesser(uint64_t l1, uint64_t l2)
     return l0;
 }
 
-static inline type_sphere__point__Point search__boxes__least(type_sphere__point__Point l1, type_sphere__point__Point l2)
+static INLINE type_sphere__point__Point search__boxes__least(type_sphere__point__Point l1, type_sphere__point__Point l2)
 {
     type_sphere__point__Point l0;
     uint64_t l3;
@@ -2005,7 +2018,7 @@ static inline type_sphere__point__Point search__boxes__least(type_sphere__point_
     return l0;
 }
 
-static inline uint64_t search__boxes__greater(uint64_t l1, uint64_t l2)
+static INLINE uint64_t search__boxes__greater(uint64_t l1, uint64_t l2)
 {
     uint64_t l0;
     bool l3;
@@ -2018,7 +2031,7 @@ static inline uint64_t search__boxes__greater(uint64_t l1, uint64_t l2)
     return l0;
 }
 
-static inline type_sphere__point__Point search__boxes__greatest(type_sphere__point__Point l1, type_sphere__point__Point l2)
+static INLINE type_sphere__point__Point search__boxes__greatest(type_sphere__point__Point l1, type_sphere__point__Point l2)
 {
     type_sphere__point__Point l0;
     uint64_t l3;
@@ -2031,7 +2044,7 @@ static inline type_sphere__point__Point search__boxes__greatest(type_sphere__poi
     return l0;
 }
 
-static inline type_search__boxes__Bounds search__boxes__run_box(slice_uint32_t l1, uint64_t l2)
+static INLINE type_search__boxes__Bounds search__boxes__run_box(slice_uint32_t l1, uint64_t l2)
 {
     type_search__boxes__Bounds l0;
     uint64_t l3;
@@ -2051,10 +2064,10 @@ static inline type_search__boxes__Bounds search__boxes__run_box(slice_uint32_t l
     l11 = (l10 / UINT64_C(3));
     l9 = search__boxes__run_end(l11, l2);
     l3 = (l9 - UINT64_C(1));
-    l9 = (l2 * UINT64_C(32));
+    l9 = (l2 << 5);
     l4 = polygon__vertices__vertex_at(l1, l9);
     l5 = l4;
-    l6 = (l2 * UINT64_C(32));
+    l6 = (l2 << 5);
     for (;;) {
         l12 = (l6 < l3);
         if (l12) {
@@ -2075,19 +2088,19 @@ exit0:;
     return l0;
 }
 
-static inline void search__boxes__put_number(slice_uint32_t l1, uint64_t l2, uint64_t l3)
+static INLINE void search__boxes__put_number(slice_uint32_t l1, uint64_t l2, uint64_t l3)
 {
     uint32_t l4;
     uint64_t l5;
     unsigned char *l6;
     l4 = (uint32_t)l3;
-    l5 = (l2 * UINT64_C(4));
+    l5 = (l2 << 2);
     l6 = ((unsigned char *)(void *)l1.f0 + (size_t)l5);
     (*(uint32_t *)(void *)l6) = l4;
     return;
 }
 
-static inline void search__boxes__put_corner(slice_uint32_t l1, uint64_t l2, type_sphere__point__Point l3)
+static INLINE void search__boxes__put_corner(slice_uint32_t l1, uint64_t l2, type_sphere__point__Point l3)
 {
     uint32_t *l5;
     slice_uint32_t l6;
@@ -2110,7 +2123,7 @@ static inline void search__boxes__put_corner(slice_uint32_t l1, uint64_t l2, typ
     return;
 }
 
-static inline void search__boxes__put_box(slice_uint32_t l1, slice_uint32_t l2, uint64_t l3)
+static INLINE void search__boxes__put_box(slice_uint32_t l1, slice_uint32_t l2, uint64_t l3)
 {
     type_search__boxes__Bounds l4;
     uint32_t *l6;
@@ -2132,7 +2145,7 @@ static inline void search__boxes__put_box(slice_uint32_t l1, slice_uint32_t l2, 
     return;
 }
 
-static inline void search__boxes__fill(slice_uint32_t l1, slice_uint32_t l2)
+static INLINE void search__boxes__fill(slice_uint32_t l1, slice_uint32_t l2)
 {
     uint64_t l3;
     uint64_t l4;
@@ -2160,7 +2173,7 @@ exit0:;
     return;
 }
 
-static inline type_answer__Check judging__accept__accept_boxed(type_sphere__point__Grid l1, slice_uint32_t l2, slice_uint32_t l3, type_sphere__point__Point l4)
+static INLINE type_answer__Check judging__accept__accept_boxed(type_sphere__point__Grid l1, slice_uint32_t l2, slice_uint32_t l3, type_sphere__point__Point l4)
 {
     type_answer__Check l0;
     uint32_t l5;
@@ -2188,7 +2201,7 @@ static inline type_answer__Check judging__accept__accept_boxed(type_sphere__poin
     return l0;
 }
 
-static inline type_sheet__open__Opened sheet__open__plain_into(slice_uint8_t l1, slice_uint32_t l2, slice_uint32_t l3)
+static type_sheet__open__Opened sheet__open__plain_into(slice_uint8_t l1, slice_uint32_t l2, slice_uint32_t l3)
 {
     type_sheet__open__Opened l0;
     uint32_t l4;
@@ -2247,14 +2260,14 @@ static inline type_sheet__open__Opened sheet__open__plain_into(slice_uint8_t l1,
     return l0;
 }
 
-static inline type_sphere__point__Point judging__accept__no_second(void)
+static INLINE type_sphere__point__Point judging__accept__no_second(void)
 {
     type_sphere__point__Point l0;
     l0 = (type_sphere__point__Point){.f0 = UINT64_C(0), .f1 = UINT64_C(0), .f2 = UINT64_C(0)};
     return l0;
 }
 
-static inline type_answer__Check polygon__checks__query_check(type_sphere__point__Grid l1, type_sphere__point__Point l2)
+static INLINE type_answer__Check polygon__checks__query_check(type_sphere__point__Grid l1, type_sphere__point__Point l2)
 {
     type_answer__Check l0;
     bool l3;
@@ -2263,7 +2276,7 @@ static inline type_answer__Check polygon__checks__query_check(type_sphere__point
     return l0;
 }
 
-static inline type_judging__judge__Judgement judging__judge__unjudged(uint32_t l1, uint64_t l2)
+static INLINE type_judging__judge__Judgement judging__judge__unjudged(uint32_t l1, uint64_t l2)
 {
     type_judging__judge__Judgement l0;
     type_answer__Answer l3;
@@ -2272,7 +2285,7 @@ static inline type_judging__judge__Judgement judging__judge__unjudged(uint32_t l
     return l0;
 }
 
-static inline type_sphere__point__Point judging__judge__judge_from(type_sphere__point__Point l1, type_sphere__point__Point l2, type_sphere__point__Point l3)
+static INLINE type_sphere__point__Point judging__judge__judge_from(type_sphere__point__Point l1, type_sphere__point__Point l2, type_sphere__point__Point l3)
 {
     type_sphere__point__Point l0;
     bool l4;
@@ -2291,7 +2304,7 @@ static inline type_sphere__point__Point judging__judge__judge_from(type_sphere__
     return l0;
 }
 
-static inline type_answer__Check polygon__checks__far_check(type_sphere__point__Point l1, type_sphere__point__Point l2)
+static INLINE type_answer__Check polygon__checks__far_check(type_sphere__point__Point l1, type_sphere__point__Point l2)
 {
     type_answer__Check l0;
     bool l3;
@@ -2300,7 +2313,7 @@ static inline type_answer__Check polygon__checks__far_check(type_sphere__point__
     return l0;
 }
 
-static inline bool search__looked__is_counted(type_search__walk__Mode l1)
+static INLINE bool search__looked__is_counted(type_search__walk__Mode l1)
 {
     bool l0;
     bool l2;
@@ -2322,7 +2335,7 @@ static inline bool search__looked__is_counted(type_search__walk__Mode l1)
     return l0;
 }
 
-static inline type_search__arc__Arc search__arc__arc_between(type_sphere__point__Grid l1, type_sphere__point__Point l2, type_sphere__point__Point l3, bool l4)
+static INLINE type_search__arc__Arc search__arc__arc_between(type_sphere__point__Grid l1, type_sphere__point__Point l2, type_sphere__point__Point l3, bool l4)
 {
     type_search__arc__Arc l0;
     type_sphere__plane__Plane l5;
@@ -2331,7 +2344,7 @@ static inline type_search__arc__Arc search__arc__arc_between(type_sphere__point_
     return l0;
 }
 
-static inline uint64_t search__boxes__end_at(uint64_t l1, uint64_t l2, uint64_t l3)
+static INLINE uint64_t search__boxes__end_at(uint64_t l1, uint64_t l2, uint64_t l3)
 {
     uint64_t l0;
     bool l4;
@@ -2344,7 +2357,7 @@ static inline uint64_t search__boxes__end_at(uint64_t l1, uint64_t l2, uint64_t 
     return l0;
 }
 
-static inline uint64_t search__boxes__end_for(slice_uint32_t l1, uint64_t l2, uint64_t l3, uint64_t l4, uint64_t l5)
+static INLINE uint64_t search__boxes__end_for(slice_uint32_t l1, uint64_t l2, uint64_t l3, uint64_t l4, uint64_t l5)
 {
     uint64_t l0;
     uint64_t l6;
@@ -2355,7 +2368,7 @@ static inline uint64_t search__boxes__end_for(slice_uint32_t l1, uint64_t l2, ui
     return l0;
 }
 
-static inline type_sphere__point__Point search__boxes__corner(type_sphere__point__Point l1, slice_uint32_t l2, uint64_t l3, uint64_t l4, uint64_t l5)
+static INLINE type_sphere__point__Point search__boxes__corner(type_sphere__point__Point l1, slice_uint32_t l2, uint64_t l3, uint64_t l4, uint64_t l5)
 {
     type_sphere__point__Point l0;
     uint64_t l6;
@@ -2372,7 +2385,7 @@ static inline type_sphere__point__Point search__boxes__corner(type_sphere__point
     return l0;
 }
 
-static inline uint64_t sphere__plane__exact_side_of(type_sphere__plane__Plane l1, type_sphere__point__Point l2)
+static INLINE uint64_t sphere__plane__exact_side_of(type_sphere__plane__Plane l1, type_sphere__point__Point l2)
 {
     uint64_t l0;
     type_sphere__point__Grid l3;
@@ -2394,7 +2407,7 @@ static inline uint64_t sphere__plane__exact_side_of(type_sphere__plane__Plane l1
     return l0;
 }
 
-static inline bool search__boxes__is_apart(type_sphere__plane__Plane l1, slice_uint32_t l2, uint64_t l3)
+static INLINE bool search__boxes__is_apart(type_sphere__plane__Plane l1, slice_uint32_t l2, uint64_t l3)
 {
     bool l0;
     type_sphere__point__Point l4;
@@ -2417,7 +2430,7 @@ static inline bool search__boxes__is_apart(type_sphere__plane__Plane l1, slice_u
     return l0;
 }
 
-static inline uint64_t search__spans__next_run(slice_uint32_t l1, type_sphere__plane__Plane l2, uint64_t l3, uint64_t l4, bool l5)
+static INLINE uint64_t search__spans__next_run(slice_uint32_t l1, type_sphere__plane__Plane l2, uint64_t l3, uint64_t l4, bool l5)
 {
     uint64_t l0;
     uint64_t l6;
@@ -2443,12 +2456,12 @@ exit0:;
     return l0;
 }
 
-static inline uint64_t search__spans__run_start(uint64_t l1, uint64_t l2)
+static INLINE uint64_t search__spans__run_start(uint64_t l1, uint64_t l2)
 {
     uint64_t l0;
     uint64_t l3;
     bool l4;
-    l3 = (l2 * UINT64_C(32));
+    l3 = (l2 << 5);
     l4 = (l3 < l1);
     if (l4) {
         l0 = l3;
@@ -2458,7 +2471,7 @@ static inline uint64_t search__spans__run_start(uint64_t l1, uint64_t l2)
     return l0;
 }
 
-static inline type_search__spans__Span search__spans__next_span(slice_uint32_t l1, slice_uint32_t l2, type_search__arc__Arc l3, uint64_t l4)
+static type_search__spans__Span search__spans__next_span(slice_uint32_t l1, slice_uint32_t l2, type_search__arc__Arc l3, uint64_t l4)
 {
     type_search__spans__Span l0;
     uint64_t l5;
@@ -2491,7 +2504,7 @@ static inline type_search__spans__Span search__spans__next_span(slice_uint32_t l
     return l0;
 }
 
-static inline uint64_t search__spans__later(uint64_t l1, uint64_t l2)
+static INLINE uint64_t search__spans__later(uint64_t l1, uint64_t l2)
 {
     uint64_t l0;
     bool l3;
@@ -2504,7 +2517,7 @@ static inline uint64_t search__spans__later(uint64_t l1, uint64_t l2)
     return l0;
 }
 
-static inline uint64_t search__scan__side_at(slice_uint32_t l1, type_sphere__plane__Plane l2, uint64_t l3, uint64_t l4)
+static INLINE uint64_t search__scan__side_at(slice_uint32_t l1, type_sphere__plane__Plane l2, uint64_t l3, uint64_t l4)
 {
     uint64_t l0;
     bool l5;
@@ -2519,7 +2532,7 @@ static inline uint64_t search__scan__side_at(slice_uint32_t l1, type_sphere__pla
     return l0;
 }
 
-static inline uint64_t search__scan__last_inner(uint64_t l1, uint64_t l2)
+static INLINE uint64_t search__scan__last_inner(uint64_t l1, uint64_t l2)
 {
     uint64_t l0;
     bool l3;
@@ -2532,7 +2545,7 @@ static inline uint64_t search__scan__last_inner(uint64_t l1, uint64_t l2)
     return l0;
 }
 
-static inline bool sphere__approximate__is_surely(double l1, bool l2)
+static INLINE bool sphere__approximate__is_surely(double l1, bool l2)
 {
     bool l0;
     bool l3;
@@ -2547,7 +2560,7 @@ static inline bool sphere__approximate__is_surely(double l1, bool l2)
     return l0;
 }
 
-static inline uint64_t search__scan__past_sure(slice_uint32_t l1, type_sphere__plane__Plane l2, bool l3, uint64_t l4, uint64_t l5)
+static INLINE uint64_t search__scan__past_sure(slice_uint32_t l1, type_sphere__plane__Plane l2, bool l3, uint64_t l4, uint64_t l5)
 {
     uint64_t l0;
     uint64_t l6;
@@ -2587,7 +2600,7 @@ exit0:;
     return l0;
 }
 
-static inline uint64_t search__scan__skip_fine(slice_uint32_t l1, type_sphere__plane__Plane l2, uint64_t l3, uint64_t l4, uint64_t l5)
+static INLINE uint64_t search__scan__skip_fine(slice_uint32_t l1, type_sphere__plane__Plane l2, uint64_t l3, uint64_t l4, uint64_t l5)
 {
     uint64_t l0;
     bool l6;
@@ -2605,7 +2618,7 @@ static inline uint64_t search__scan__skip_fine(slice_uint32_t l1, type_sphere__p
     return l0;
 }
 
-static inline uint64_t search__scan__skip(slice_uint32_t l1, type_sphere__plane__Plane l2, uint64_t l3, uint64_t l4, uint64_t l5)
+static INLINE uint64_t search__scan__skip(slice_uint32_t l1, type_sphere__plane__Plane l2, uint64_t l3, uint64_t l4, uint64_t l5)
 {
     uint64_t l0;
     type_sphere__point__Grid l6;
@@ -2625,7 +2638,7 @@ static inline uint64_t search__scan__skip(slice_uint32_t l1, type_sphere__plane_
     return l0;
 }
 
-static inline bool sphere__crossing__is_beside(uint64_t l1, uint64_t l2)
+static INLINE bool sphere__crossing__is_beside(uint64_t l1, uint64_t l2)
 {
     bool l0;
     bool l3;
@@ -2643,7 +2656,7 @@ static inline bool sphere__crossing__is_beside(uint64_t l1, uint64_t l2)
     return l0;
 }
 
-static inline type_search__scan__Near search__scan__next_near(slice_uint32_t l1, type_sphere__plane__Plane l2, uint64_t l3, uint64_t l4, uint64_t l5, uint64_t l6)
+static type_search__scan__Near search__scan__next_near(slice_uint32_t l1, type_sphere__plane__Plane l2, uint64_t l3, uint64_t l4, uint64_t l5, uint64_t l6)
 {
     type_search__scan__Near l0;
     uint64_t l7;
@@ -2678,7 +2691,7 @@ exit0:;
     return l0;
 }
 
-static inline type_search__scan__Near search__scan__near_from(slice_uint32_t l1, type_search__arc__Arc l2, uint64_t l3, uint64_t l4, uint64_t l5, uint64_t l6)
+static INLINE type_search__scan__Near search__scan__near_from(slice_uint32_t l1, type_search__arc__Arc l2, uint64_t l3, uint64_t l4, uint64_t l5, uint64_t l6)
 {
     type_search__scan__Near l0;
     uint64_t l7;
@@ -2691,7 +2704,7 @@ static inline type_search__scan__Near search__scan__near_from(slice_uint32_t l1,
     return l0;
 }
 
-static inline bool sphere__edge__toward(uint64_t l1, uint64_t l2)
+static INLINE bool sphere__edge__toward(uint64_t l1, uint64_t l2)
 {
     bool l0;
     bool l3;
@@ -2709,7 +2722,7 @@ static inline bool sphere__edge__toward(uint64_t l1, uint64_t l2)
     return l0;
 }
 
-static inline bool sphere__edge__between(uint64_t l1, uint64_t l2, uint64_t l3)
+static INLINE bool sphere__edge__between(uint64_t l1, uint64_t l2, uint64_t l3)
 {
     bool l0;
     bool l4;
@@ -2722,7 +2735,7 @@ static inline bool sphere__edge__between(uint64_t l1, uint64_t l2, uint64_t l3)
     return l0;
 }
 
-static inline bool sphere__edge__held_by(type_sphere__point__Point l1, type_sphere__point__Point l2, type_sphere__point__Point l3)
+static INLINE bool sphere__edge__held_by(type_sphere__point__Point l1, type_sphere__point__Point l2, type_sphere__point__Point l3)
 {
     bool l0;
     uint64_t l4;
@@ -2758,7 +2771,7 @@ static inline bool sphere__edge__held_by(type_sphere__point__Point l1, type_sphe
     return l0;
 }
 
-static inline bool sphere__edge__holds_level(type_sphere__point__Point l1, type_sphere__point__Point l2, type_sphere__point__Point l3)
+static INLINE bool sphere__edge__holds_level(type_sphere__point__Point l1, type_sphere__point__Point l2, type_sphere__point__Point l3)
 {
     bool l0;
     type_sphere__point__Point l4;
@@ -2771,7 +2784,7 @@ static inline bool sphere__edge__holds_level(type_sphere__point__Point l1, type_
     return l0;
 }
 
-static inline bool sphere__edge__on_edge_by(type_sphere__point__Point l1, type_sphere__point__Point l2, type_sphere__point__Point l3, uint64_t l4)
+static INLINE bool sphere__edge__on_edge_by(type_sphere__point__Point l1, type_sphere__point__Point l2, type_sphere__point__Point l3, uint64_t l4)
 {
     bool l0;
     bool l5;
@@ -2784,7 +2797,7 @@ static inline bool sphere__edge__on_edge_by(type_sphere__point__Point l1, type_s
     return l0;
 }
 
-static inline bool search__border__stops_at(slice_uint32_t l1, type_search__arc__Arc l2, bool l3, uint64_t l4, uint64_t l5)
+static INLINE bool search__border__stops_at(slice_uint32_t l1, type_search__arc__Arc l2, bool l3, uint64_t l4, uint64_t l5)
 {
     bool l0;
     bool l6;
@@ -2801,7 +2814,7 @@ static inline bool search__border__stops_at(slice_uint32_t l1, type_search__arc_
     return l0;
 }
 
-static inline bool sphere__crossing__changes_side(uint64_t l1, uint64_t l2)
+static INLINE bool sphere__crossing__changes_side(uint64_t l1, uint64_t l2)
 {
     bool l0;
     bool l3;
@@ -2814,7 +2827,7 @@ static inline bool sphere__crossing__changes_side(uint64_t l1, uint64_t l2)
     return l0;
 }
 
-static inline uint32_t sphere__crossing__crossing_by(uint64_t l1, uint64_t l2, uint64_t l3, uint64_t l4)
+static INLINE uint32_t sphere__crossing__crossing_by(uint64_t l1, uint64_t l2, uint64_t l3, uint64_t l4)
 {
     uint32_t l0;
     bool l5;
@@ -2855,7 +2868,7 @@ static inline uint32_t sphere__crossing__crossing_by(uint64_t l1, uint64_t l2, u
     return l0;
 }
 
-static inline uint32_t sphere__crossing__crossing_from(type_sphere__plane__Plane l1, type_sphere__point__Point l2, uint64_t l3, uint64_t l4, uint64_t l5)
+static INLINE uint32_t sphere__crossing__crossing_from(type_sphere__plane__Plane l1, type_sphere__point__Point l2, uint64_t l3, uint64_t l4, uint64_t l5)
 {
     uint32_t l0;
     bool l6;
@@ -2870,7 +2883,7 @@ static inline uint32_t sphere__crossing__crossing_from(type_sphere__plane__Plane
     return l0;
 }
 
-static inline type_search__walk__EdgeTest search__walk__test_edge(slice_uint32_t l1, type_search__arc__Arc l2, bool l3, type_search__scan__Near l4)
+static type_search__walk__EdgeTest search__walk__test_edge(slice_uint32_t l1, type_search__arc__Arc l2, bool l3, type_search__scan__Near l4)
 {
     type_search__walk__EdgeTest l0;
     uint64_t l5;
@@ -2905,7 +2918,7 @@ static inline type_search__walk__EdgeTest search__walk__test_edge(slice_uint32_t
     return l0;
 }
 
-static inline uint32_t search__walk__counted(uint32_t l1)
+static INLINE uint32_t search__walk__counted(uint32_t l1)
 {
     uint32_t l0;
     bool l2;
@@ -2918,7 +2931,7 @@ static inline uint32_t search__walk__counted(uint32_t l1)
     return l0;
 }
 
-static inline type_search__walk__Tally search__walk__tally_by(type_answer__Found l1, uint32_t l2, uint32_t l3)
+static INLINE type_search__walk__Tally search__walk__tally_by(type_answer__Found l1, uint32_t l2, uint32_t l3)
 {
     type_search__walk__Tally l0;
     uint64_t l4;
@@ -2938,7 +2951,7 @@ static inline type_search__walk__Tally search__walk__tally_by(type_answer__Found
     return l0;
 }
 
-static inline type_search__walk__Tally search__walk__walk_edges(slice_uint32_t l1, type_search__arc__Arc l2, uint64_t l3, uint64_t l4, uint64_t l5, bool l6)
+static INLINE type_search__walk__Tally search__walk__walk_edges(slice_uint32_t l1, type_search__arc__Arc l2, uint64_t l3, uint64_t l4, uint64_t l5, bool l6)
 {
     type_search__walk__Tally l0;
     uint64_t l7;
@@ -2991,7 +3004,7 @@ exit0:;
     return l0;
 }
 
-static inline type_search__walk__Tally search__walk__walk_spans(slice_uint32_t l1, slice_uint32_t l2, type_search__arc__Arc l3, uint64_t l4, bool l5)
+static type_search__walk__Tally search__walk__walk_spans(slice_uint32_t l1, slice_uint32_t l2, type_search__arc__Arc l3, uint64_t l4, bool l5)
 {
     type_search__walk__Tally l0;
     uint64_t l6;
@@ -3045,7 +3058,7 @@ exit0:;
     return l0;
 }
 
-static inline uint64_t corridors__border__sum_of(type_sphere__point__Point l1, type_sphere__point__Point l2)
+static INLINE uint64_t corridors__border__sum_of(type_sphere__point__Point l1, type_sphere__point__Point l2)
 {
     uint64_t l0;
     uint64_t l3;
@@ -3064,7 +3077,7 @@ static inline uint64_t corridors__border__sum_of(type_sphere__point__Point l1, t
     return l0;
 }
 
-static inline uint64_t corridors__border__number_of(uint64_t l1, type_sphere__point__Point l2)
+static INLINE uint64_t corridors__border__number_of(uint64_t l1, type_sphere__point__Point l2)
 {
     uint64_t l0;
     bool l3;
@@ -3082,7 +3095,7 @@ static inline uint64_t corridors__border__number_of(uint64_t l1, type_sphere__po
     return l0;
 }
 
-static inline bool corridors__border__is_off(uint64_t l1, type_sphere__point__Point l2, type_sphere__point__Point l3)
+static INLINE bool corridors__border__is_off(uint64_t l1, type_sphere__point__Point l2, type_sphere__point__Point l3)
 {
     bool l0;
     type_sphere__plane__Plane l4;
@@ -3103,7 +3116,7 @@ static inline bool corridors__border__is_off(uint64_t l1, type_sphere__point__Po
     return l0;
 }
 
-static inline uint64_t corridors__border__past_off(slice_uint32_t l1, uint64_t l2, type_sphere__point__Point l3, uint64_t l4, uint64_t l5)
+static INLINE uint64_t corridors__border__past_off(slice_uint32_t l1, uint64_t l2, type_sphere__point__Point l3, uint64_t l4, uint64_t l5)
 {
     uint64_t l0;
     uint64_t l6;
@@ -3139,7 +3152,7 @@ exit0:;
     return l0;
 }
 
-static inline uint64_t corridors__border__next_toward(slice_uint32_t l1, uint64_t l2, type_sphere__point__Point l3, uint64_t l4, uint64_t l5)
+static uint64_t corridors__border__next_toward(slice_uint32_t l1, uint64_t l2, type_sphere__point__Point l3, uint64_t l4, uint64_t l5)
 {
     uint64_t l0;
     bool l6;
@@ -3162,7 +3175,7 @@ static inline uint64_t corridors__border__next_toward(slice_uint32_t l1, uint64_
     return l0;
 }
 
-static inline uint64_t corridors__border__next_edge(slice_uint32_t l1, uint64_t l2, type_sphere__point__Point l3, uint64_t l4, uint64_t l5)
+static INLINE uint64_t corridors__border__next_edge(slice_uint32_t l1, uint64_t l2, type_sphere__point__Point l3, uint64_t l4, uint64_t l5)
 {
     uint64_t l0;
     uint64_t l6;
@@ -3177,7 +3190,7 @@ static inline uint64_t corridors__border__next_edge(slice_uint32_t l1, uint64_t 
     return l0;
 }
 
-static inline uint64_t corridors__border__next_by(slice_uint32_t l1, type_sphere__point__Point l2, type_sphere__point__Point l3, uint64_t l4, uint64_t l5, uint64_t l6)
+static INLINE uint64_t corridors__border__next_by(slice_uint32_t l1, type_sphere__point__Point l2, type_sphere__point__Point l3, uint64_t l4, uint64_t l5, uint64_t l6)
 {
     uint64_t l0;
     uint64_t l7;
@@ -3195,7 +3208,7 @@ static inline uint64_t corridors__border__next_by(slice_uint32_t l1, type_sphere
     return l0;
 }
 
-static inline bool corridors__border__same_ends(type_sphere__point__Point l1, type_sphere__point__Point l2, type_sphere__point__Point l3, type_sphere__point__Point l4)
+static INLINE bool corridors__border__same_ends(type_sphere__point__Point l1, type_sphere__point__Point l2, type_sphere__point__Point l3, type_sphere__point__Point l4)
 {
     bool l0;
     bool l5;
@@ -3208,7 +3221,7 @@ static inline bool corridors__border__same_ends(type_sphere__point__Point l1, ty
     return l0;
 }
 
-static inline uint32_t corridors__border__coincident(slice_uint32_t l1, type_sphere__point__Point l2, type_sphere__point__Point l3, uint64_t l4)
+static INLINE uint32_t corridors__border__coincident(slice_uint32_t l1, type_sphere__point__Point l2, type_sphere__point__Point l3, uint64_t l4)
 {
     uint32_t l0;
     type_sphere__point__Point l5;
@@ -3231,7 +3244,7 @@ static inline uint32_t corridors__border__coincident(slice_uint32_t l1, type_sph
     return l0;
 }
 
-static inline uint64_t corridors__border__next_coincident(slice_uint32_t l1, type_sphere__point__Point l2, type_sphere__point__Point l3, uint64_t l4, uint64_t l5)
+static uint64_t corridors__border__next_coincident(slice_uint32_t l1, type_sphere__point__Point l2, type_sphere__point__Point l3, uint64_t l4, uint64_t l5)
 {
     uint64_t l0;
     uint64_t l6;
@@ -3262,7 +3275,7 @@ exit0:;
     return l0;
 }
 
-static inline void corridors__border__put_mark(slice_uint8_t l1, uint64_t l2)
+static INLINE void corridors__border__put_mark(slice_uint8_t l1, uint64_t l2)
 {
     uint64_t l3;
     bool l4;
@@ -3276,7 +3289,7 @@ static inline void corridors__border__put_mark(slice_uint8_t l1, uint64_t l2)
     return;
 }
 
-static inline uint32_t corridors__border__mark_edges(slice_uint32_t l1, type_sphere__point__Point l2, type_sphere__point__Point l3, uint64_t l4, uint64_t l5, slice_uint8_t l6)
+static INLINE uint32_t corridors__border__mark_edges(slice_uint32_t l1, type_sphere__point__Point l2, type_sphere__point__Point l3, uint64_t l4, uint64_t l5, slice_uint8_t l6)
 {
     uint32_t l0;
     uint32_t l7;
@@ -3310,7 +3323,7 @@ exit0:;
     return l0;
 }
 
-static inline uint32_t search__border__mark_class(slice_uint32_t l1, slice_uint32_t l2, type_search__arc__Arc l3, uint64_t l4, slice_uint8_t l5)
+static INLINE uint32_t search__border__mark_class(slice_uint32_t l1, slice_uint32_t l2, type_search__arc__Arc l3, uint64_t l4, slice_uint8_t l5)
 {
     uint32_t l0;
     type_sphere__point__Point l6;
@@ -3347,7 +3360,7 @@ exit0:;
     return l0;
 }
 
-static inline bool search__border__is_border(slice_uint32_t l1, slice_uint32_t l2, type_search__arc__Arc l3, uint64_t l4, slice_uint8_t l5)
+static INLINE bool search__border__is_border(slice_uint32_t l1, slice_uint32_t l2, type_search__arc__Arc l3, uint64_t l4, slice_uint8_t l5)
 {
     bool l0;
     uint32_t l6;
@@ -3362,7 +3375,7 @@ static inline bool search__border__is_border(slice_uint32_t l1, slice_uint32_t l
     return l0;
 }
 
-static inline uint64_t search__border__held_or(type_search__walk__Tally l1, uint64_t l2)
+static INLINE uint64_t search__border__held_or(type_search__walk__Tally l1, uint64_t l2)
 {
     uint64_t l0;
     uint64_t l3;
@@ -3382,7 +3395,7 @@ static inline uint64_t search__border__held_or(type_search__walk__Tally l1, uint
     return l0;
 }
 
-static inline uint64_t search__border__next_held(slice_uint32_t l1, slice_uint32_t l2, type_search__arc__Arc l3, uint64_t l4)
+static INLINE uint64_t search__border__next_held(slice_uint32_t l1, slice_uint32_t l2, type_search__arc__Arc l3, uint64_t l4)
 {
     uint64_t l0;
     type_search__walk__Tally l5;
@@ -3395,7 +3408,7 @@ static inline uint64_t search__border__next_held(slice_uint32_t l1, slice_uint32
     return l0;
 }
 
-static inline bool search__border__joins(slice_uint32_t l1, type_sphere__point__Point l2, type_sphere__point__Point l3, uint64_t l4)
+static INLINE bool search__border__joins(slice_uint32_t l1, type_sphere__point__Point l2, type_sphere__point__Point l3, uint64_t l4)
 {
     bool l0;
     type_sphere__point__Point l5;
@@ -3416,7 +3429,7 @@ static inline bool search__border__joins(slice_uint32_t l1, type_sphere__point__
     return l0;
 }
 
-static inline uint64_t search__border__next_other(slice_uint32_t l1, slice_uint32_t l2, type_search__arc__Arc l3, uint64_t l4)
+static uint64_t search__border__next_other(slice_uint32_t l1, slice_uint32_t l2, type_search__arc__Arc l3, uint64_t l4)
 {
     uint64_t l0;
     uint64_t l5;
@@ -3457,7 +3470,7 @@ exit0:;
     return l0;
 }
 
-static inline bool search__border__is_new_border(slice_uint32_t l1, slice_uint32_t l2, type_search__arc__Arc l3, uint64_t l4, slice_uint8_t l5)
+static INLINE bool search__border__is_new_border(slice_uint32_t l1, slice_uint32_t l2, type_search__arc__Arc l3, uint64_t l4, slice_uint8_t l5)
 {
     bool l0;
     unsigned char *l6;
@@ -3521,7 +3534,7 @@ exit0:;
     return l0;
 }
 
-static inline type_search__walk__Tally search__border__tally_marked(slice_uint32_t l1, slice_uint32_t l2, type_search__arc__Arc l3)
+static INLINE type_search__walk__Tally search__border__tally_marked(slice_uint32_t l1, slice_uint32_t l2, type_search__arc__Arc l3)
 {
     type_search__walk__Tally l0;
     type_sphere__plane__Plane l4;
@@ -3549,7 +3562,7 @@ static inline type_search__walk__Tally search__border__tally_marked(slice_uint32
     return l0;
 }
 
-static inline type_search__walk__Tally search__border__tally_past(slice_uint32_t l1, slice_uint32_t l2, type_search__arc__Arc l3, uint64_t l4)
+static INLINE type_search__walk__Tally search__border__tally_past(slice_uint32_t l1, slice_uint32_t l2, type_search__arc__Arc l3, uint64_t l4)
 {
     type_search__walk__Tally l0;
     uint64_t l5;
@@ -3580,7 +3593,7 @@ static inline type_search__walk__Tally search__border__tally_past(slice_uint32_t
     return l0;
 }
 
-static inline type_search__walk__Tally search__border__tally_held(slice_uint32_t l1, slice_uint32_t l2, type_search__arc__Arc l3, uint64_t l4)
+static type_search__walk__Tally search__border__tally_held(slice_uint32_t l1, slice_uint32_t l2, type_search__arc__Arc l3, uint64_t l4)
 {
     type_search__walk__Tally l0;
     array_uint8_t_1 l5;
@@ -3599,7 +3612,7 @@ static inline type_search__walk__Tally search__border__tally_held(slice_uint32_t
     return l0;
 }
 
-static inline type_search__walk__Tally search__border__tally_arc(slice_uint32_t l1, slice_uint32_t l2, type_search__arc__Arc l3)
+static INLINE type_search__walk__Tally search__border__tally_arc(slice_uint32_t l1, slice_uint32_t l2, type_search__arc__Arc l3)
 {
     type_search__walk__Tally l0;
     uint64_t l4;
@@ -3625,7 +3638,7 @@ static inline type_search__walk__Tally search__border__tally_arc(slice_uint32_t 
     return l0;
 }
 
-static inline uint64_t search__looked__reach_of(type_search__walk__Tally l1, uint64_t l2)
+static INLINE uint64_t search__looked__reach_of(type_search__walk__Tally l1, uint64_t l2)
 {
     uint64_t l0;
     uint64_t l3;
@@ -3645,7 +3658,7 @@ static inline uint64_t search__looked__reach_of(type_search__walk__Tally l1, uin
     return l0;
 }
 
-static inline uint32_t search__looked__looked_in(slice_uint32_t l1, type_sphere__plane__Plane l2, uint64_t l3, uint64_t l4)
+static INLINE uint32_t search__looked__looked_in(slice_uint32_t l1, type_sphere__plane__Plane l2, uint64_t l3, uint64_t l4)
 {
     uint32_t l0;
     bool l5;
@@ -3658,13 +3671,13 @@ static inline uint32_t search__looked__looked_in(slice_uint32_t l1, type_sphere_
         return l0;
     }
     l6 = search__boxes__run_end(l4, l3);
-    l7 = (l3 * UINT64_C(32));
+    l7 = (l3 << 5);
     l8 = (l6 - l7);
     l0 = (uint32_t)l8;
     return l0;
 }
 
-static inline uint32_t search__looked__looked_before(slice_uint32_t l1, type_sphere__plane__Plane l2, uint64_t l3)
+static INLINE uint32_t search__looked__looked_before(slice_uint32_t l1, type_sphere__plane__Plane l2, uint64_t l3)
 {
     uint32_t l0;
     uint64_t l4;
@@ -3690,7 +3703,7 @@ exit0:;
     return l0;
 }
 
-static inline type_search__walk__Searched search__walk__count_edges(type_sphere__point__Grid l1, slice_uint32_t l2, slice_uint32_t l3, type_sphere__point__Point l4, type_sphere__point__Point l5)
+static type_search__walk__Searched search__walk__count_edges(type_sphere__point__Grid l1, slice_uint32_t l2, slice_uint32_t l3, type_sphere__point__Point l4, type_sphere__point__Point l5)
 {
     type_search__walk__Searched l0;
     type_search__arc__Arc l6;
@@ -3709,7 +3722,7 @@ static inline type_search__walk__Searched search__walk__count_edges(type_sphere_
     return l0;
 }
 
-static inline bool search__looked__asks_boxes(type_search__walk__Mode l1)
+static INLINE bool search__looked__asks_boxes(type_search__walk__Mode l1)
 {
     bool l0;
     bool l2;
@@ -3731,7 +3744,7 @@ static inline bool search__looked__asks_boxes(type_search__walk__Mode l1)
     return l0;
 }
 
-static inline type_search__walk__Tally search__walk__tally_edges(type_sphere__point__Grid l1, slice_uint32_t l2, slice_uint32_t l3, type_sphere__point__Point l4, type_sphere__point__Point l5, bool l6)
+static INLINE type_search__walk__Tally search__walk__tally_edges(type_sphere__point__Grid l1, slice_uint32_t l2, slice_uint32_t l3, type_sphere__point__Point l4, type_sphere__point__Point l5, bool l6)
 {
     type_search__walk__Tally l0;
     type_search__arc__Arc l7;
@@ -3759,14 +3772,14 @@ static inline type_search__walk__Tally search__walk__tally_edges(type_sphere__po
     return l0;
 }
 
-static inline type_search__walk__Searched search__walk__uncounted(type_search__walk__Tally l1)
+static INLINE type_search__walk__Searched search__walk__uncounted(type_search__walk__Tally l1)
 {
     type_search__walk__Searched l0;
     l0 = (type_search__walk__Searched){.f0 = l1, .f1 = UINT32_C(0)};
     return l0;
 }
 
-static inline type_search__walk__Searched search__walk__search_edges(type_sphere__point__Grid l1, slice_uint32_t l2, slice_uint32_t l3, type_sphere__point__Point l4, type_sphere__point__Point l5, type_search__walk__Mode l6)
+static INLINE type_search__walk__Searched search__walk__search_edges(type_sphere__point__Grid l1, slice_uint32_t l2, slice_uint32_t l3, type_sphere__point__Point l4, type_sphere__point__Point l5, type_search__walk__Mode l6)
 {
     type_search__walk__Searched l0;
     bool l7;
@@ -3783,7 +3796,7 @@ static inline type_search__walk__Searched search__walk__search_edges(type_sphere
     return l0;
 }
 
-static inline type_answer__Answer judging__judge__by_parity(uint32_t l1, uint32_t l2)
+static INLINE type_answer__Answer judging__judge__by_parity(uint32_t l1, uint32_t l2)
 {
     type_answer__Answer l0;
     uint32_t l3;
@@ -3798,7 +3811,7 @@ static inline type_answer__Answer judging__judge__by_parity(uint32_t l1, uint32_
     return l0;
 }
 
-static inline type_answer__Answer judging__judge__verdict_on(type_search__walk__Tally l1)
+static INLINE type_answer__Answer judging__judge__verdict_on(type_search__walk__Tally l1)
 {
     type_answer__Answer l0;
     uint64_t l2;
@@ -3822,7 +3835,7 @@ static inline type_answer__Answer judging__judge__verdict_on(type_search__walk__
     return l0;
 }
 
-static inline type_judging__judge__Judgement judging__judge__judge_boxed(type_sphere__point__Grid l1, slice_uint32_t l2, slice_uint32_t l3, type_sphere__point__Point l4, type_sphere__point__Point l5, type_sphere__point__Point l6, type_search__walk__Mode l7)
+static type_judging__judge__Judgement judging__judge__judge_boxed(type_sphere__point__Grid l1, slice_uint32_t l2, slice_uint32_t l3, type_sphere__point__Point l4, type_sphere__point__Point l5, type_sphere__point__Point l6, type_search__walk__Mode l7)
 {
     type_judging__judge__Judgement l0;
     uint32_t l8;
@@ -3869,7 +3882,7 @@ static inline type_judging__judge__Judgement judging__judge__judge_boxed(type_sp
     return l0;
 }
 
-static inline uint32_t answer__number(type_answer__Answer l1)
+static INLINE uint32_t answer__number(type_answer__Answer l1)
 {
     uint32_t l0;
     uint32_t l2;
@@ -3901,7 +3914,7 @@ static inline uint32_t answer__number(type_answer__Answer l1)
     return l0;
 }
 
-static inline bool judging__second__is_second(type_sphere__point__Grid l1, slice_uint32_t l2, slice_uint32_t l3, type_sphere__point__Point l4, type_sphere__point__Point l5)
+static INLINE bool judging__second__is_second(type_sphere__point__Grid l1, slice_uint32_t l2, slice_uint32_t l3, type_sphere__point__Point l4, type_sphere__point__Point l5)
 {
     bool l0;
     type_sphere__point__Point l6;
@@ -3930,7 +3943,7 @@ static inline bool judging__second__is_second(type_sphere__point__Grid l1, slice
     return l0;
 }
 
-static inline type_answer__Check judging__second__second_check(type_sphere__point__Grid l1, slice_uint32_t l2, slice_uint32_t l3, type_sphere__point__Point l4, type_sphere__point__Point l5)
+static INLINE type_answer__Check judging__second__second_check(type_sphere__point__Grid l1, slice_uint32_t l2, slice_uint32_t l3, type_sphere__point__Point l4, type_sphere__point__Point l5)
 {
     type_answer__Check l0;
     bool l6;
@@ -3943,7 +3956,7 @@ static inline type_answer__Check judging__second__second_check(type_sphere__poin
     return l0;
 }
 
-static inline type_sheet__open__Opened sheet__open__open_into(slice_uint8_t l1, slice_uint32_t l2, slice_uint32_t l3)
+static INLINE type_sheet__open__Opened sheet__open__open_into(slice_uint8_t l1, slice_uint32_t l2, slice_uint32_t l3)
 {
     type_sheet__open__Opened l0;
     type_sheet__open__Opened l4;
@@ -4007,7 +4020,7 @@ static inline type_sheet__open__Opened sheet__open__open_into(slice_uint8_t l1, 
     return l0;
 }
 
-static inline type_judging__judge__Judgement zone__judge__judged_in(slice_uint8_t l1, type_sphere__point__Point l2, slice_uint32_t l3, slice_uint32_t l4, type_search__walk__Mode l5)
+static INLINE type_judging__judge__Judgement zone__judge__judged_in(slice_uint8_t l1, type_sphere__point__Point l2, slice_uint32_t l3, slice_uint32_t l4, type_search__walk__Mode l5)
 {
     type_judging__judge__Judgement l0;
     type_sheet__open__Opened l6;
@@ -4092,7 +4105,7 @@ static APART type_judging__judge__Judgement zone__judge__judged(slice_uint8_t l1
     return l0;
 }
 
-static inline type_answer__Answer zone__judge__judge(slice_uint8_t l1, type_sphere__point__Point l2)
+static INLINE type_answer__Answer zone__judge__judge(slice_uint8_t l1, type_sphere__point__Point l2)
 {
     type_answer__Answer l0;
     type_judging__judge__Judgement l3;
@@ -4103,7 +4116,7 @@ static inline type_answer__Answer zone__judge__judge(slice_uint8_t l1, type_sphe
     return l0;
 }
 
-static inline type_answer__Answer spargolutta__answer(slice_uint8_t l1, uint32_t l2, uint32_t l3, uint32_t l4)
+static INLINE type_answer__Answer spargolutta__answer(slice_uint8_t l1, uint32_t l2, uint32_t l3, uint32_t l4)
 {
     type_answer__Answer l0;
     type_sphere__point__Point l5;
@@ -4112,7 +4125,7 @@ static inline type_answer__Answer spargolutta__answer(slice_uint8_t l1, uint32_t
     return l0;
 }
 
-static inline uint32_t spargolutta__spg_judge_number(slice_uint8_t l1, uint32_t l2, uint32_t l3, uint32_t l4)
+static INLINE uint32_t spargolutta__spg_judge_number(slice_uint8_t l1, uint32_t l2, uint32_t l3, uint32_t l4)
 {
     uint32_t l0;
     type_answer__Answer l5;
@@ -4121,7 +4134,7 @@ static inline uint32_t spargolutta__spg_judge_number(slice_uint8_t l1, uint32_t 
     return l0;
 }
 
-static inline uint64_t answer__place(type_answer__Answer l1)
+static INLINE uint64_t answer__place(type_answer__Answer l1)
 {
     uint64_t l0;
     uint64_t l2;
@@ -4157,7 +4170,7 @@ static inline uint64_t answer__place(type_answer__Answer l1)
     return l0;
 }
 
-static inline uint64_t spargolutta__spg_judge_place(slice_uint8_t l1, uint32_t l2, uint32_t l3, uint32_t l4)
+static INLINE uint64_t spargolutta__spg_judge_place(slice_uint8_t l1, uint32_t l2, uint32_t l3, uint32_t l4)
 {
     uint64_t l0;
     type_answer__Answer l5;
@@ -4166,7 +4179,7 @@ static inline uint64_t spargolutta__spg_judge_place(slice_uint8_t l1, uint32_t l
     return l0;
 }
 
-static inline uint32_t answer__count(type_answer__Answer l1)
+static INLINE uint32_t answer__count(type_answer__Answer l1)
 {
     uint32_t l0;
     uint32_t l2;
@@ -4200,7 +4213,7 @@ static inline uint32_t answer__count(type_answer__Answer l1)
     return l0;
 }
 
-static inline uint32_t spargolutta__spg_judge_count(slice_uint8_t l1, uint32_t l2, uint32_t l3, uint32_t l4)
+static INLINE uint32_t spargolutta__spg_judge_count(slice_uint8_t l1, uint32_t l2, uint32_t l3, uint32_t l4)
 {
     uint32_t l0;
     type_answer__Answer l5;
@@ -4209,7 +4222,7 @@ static inline uint32_t spargolutta__spg_judge_count(slice_uint8_t l1, uint32_t l
     return l0;
 }
 
-static inline uint32_t answer__sum(type_answer__Answer l1)
+static INLINE uint32_t answer__sum(type_answer__Answer l1)
 {
     uint32_t l0;
     uint32_t l2;
@@ -4243,7 +4256,7 @@ static inline uint32_t answer__sum(type_answer__Answer l1)
     return l0;
 }
 
-static inline uint32_t spargolutta__spg_judge_sum(slice_uint8_t l1, uint32_t l2, uint32_t l3, uint32_t l4)
+static INLINE uint32_t spargolutta__spg_judge_sum(slice_uint8_t l1, uint32_t l2, uint32_t l3, uint32_t l4)
 {
     uint32_t l0;
     type_answer__Answer l5;
@@ -4252,7 +4265,7 @@ static inline uint32_t spargolutta__spg_judge_sum(slice_uint8_t l1, uint32_t l2,
     return l0;
 }
 
-static inline uint32_t zone__judge__looked(slice_uint8_t l1, type_sphere__point__Point l2)
+static INLINE uint32_t zone__judge__looked(slice_uint8_t l1, type_sphere__point__Point l2)
 {
     uint32_t l0;
     type_judging__judge__Judgement l3;
@@ -4263,7 +4276,7 @@ static inline uint32_t zone__judge__looked(slice_uint8_t l1, type_sphere__point_
     return l0;
 }
 
-static inline uint32_t spargolutta__spg_judge_looked(slice_uint8_t l1, uint32_t l2, uint32_t l3, uint32_t l4)
+static INLINE uint32_t spargolutta__spg_judge_looked(slice_uint8_t l1, uint32_t l2, uint32_t l3, uint32_t l4)
 {
     uint32_t l0;
     type_sphere__point__Point l5;
@@ -4272,7 +4285,7 @@ static inline uint32_t spargolutta__spg_judge_looked(slice_uint8_t l1, uint32_t 
     return l0;
 }
 
-static inline type_answer__Check feed__size_check(slice_uint8_t l1, uint64_t l2)
+static INLINE type_answer__Check feed__size_check(slice_uint8_t l1, uint64_t l2)
 {
     type_answer__Check l0;
     uint64_t l3;
@@ -4298,7 +4311,7 @@ static inline type_answer__Check feed__size_check(slice_uint8_t l1, uint64_t l2)
     return l0;
 }
 
-static inline uint64_t azimuths__azimuth__size(uint64_t l1)
+static INLINE uint64_t azimuths__azimuth__size(uint64_t l1)
 {
     uint64_t l0;
     bool l2;
@@ -4313,7 +4326,7 @@ static inline uint64_t azimuths__azimuth__size(uint64_t l1)
     return l0;
 }
 
-static inline type_azimuths__azimuth__Frame azimuths__azimuth__turned(bool l1, type_sphere__point__Point l2, type_sphere__point__Point l3)
+static INLINE type_azimuths__azimuth__Frame azimuths__azimuth__turned(bool l1, type_sphere__point__Point l2, type_sphere__point__Point l3)
 {
     type_azimuths__azimuth__Frame l0;
     bool l4;
@@ -4326,7 +4339,7 @@ static inline type_azimuths__azimuth__Frame azimuths__azimuth__turned(bool l1, t
     return l0;
 }
 
-static inline type_azimuths__azimuth__Frame azimuths__azimuth__frame_of(type_sphere__point__Point l1)
+static INLINE type_azimuths__azimuth__Frame azimuths__azimuth__frame_of(type_sphere__point__Point l1)
 {
     type_azimuths__azimuth__Frame l0;
     uint64_t l2;
@@ -4379,7 +4392,7 @@ static inline type_azimuths__azimuth__Frame azimuths__azimuth__frame_of(type_sph
     return l0;
 }
 
-static inline uint64_t azimuths__azimuth__choose(bool l1, uint64_t l2, uint64_t l3)
+static INLINE uint64_t azimuths__azimuth__choose(bool l1, uint64_t l2, uint64_t l3)
 {
     uint64_t l0;
     bool l4;
@@ -4392,7 +4405,7 @@ static inline uint64_t azimuths__azimuth__choose(bool l1, uint64_t l2, uint64_t 
     return l0;
 }
 
-static inline uint64_t azimuths__azimuth__quarter(bool l1, bool l2)
+static INLINE uint64_t azimuths__azimuth__quarter(bool l1, bool l2)
 {
     uint64_t l0;
     bool l3;
@@ -4416,7 +4429,7 @@ static inline uint64_t azimuths__azimuth__quarter(bool l1, bool l2)
     return l0;
 }
 
-static inline uint64_t azimuths__azimuth__part(uint64_t l1, uint64_t l2)
+static INLINE uint64_t azimuths__azimuth__part(uint64_t l1, uint64_t l2)
 {
     uint64_t l0;
     uint64_t l3;
@@ -4429,21 +4442,21 @@ static inline uint64_t azimuths__azimuth__part(uint64_t l1, uint64_t l2)
     uint64_t l10;
     l4 = (l1 < UINT64_C(281474976710656));
     if (l4) {
-        l5 = (l1 * UINT64_C(16384));
+        l5 = (l1 << 14);
         l0 = (l5 / l2);
         return l0;
     }
-    l3 = (l1 * UINT64_C(512));
+    l3 = (l1 << 9);
     l6 = (l3 / l2);
-    l7 = (l6 * UINT64_C(32));
+    l7 = (l6 << 5);
     l8 = (l3 % l2);
-    l9 = (l8 * UINT64_C(32));
+    l9 = (l8 << 5);
     l10 = (l9 / l2);
     l0 = (l7 + l10);
     return l0;
 }
 
-static inline uint64_t azimuths__azimuth__azimuth_by(uint64_t l1, uint64_t l2)
+static INLINE uint64_t azimuths__azimuth__azimuth_by(uint64_t l1, uint64_t l2)
 {
     uint64_t l0;
     uint64_t l3;
@@ -4475,7 +4488,7 @@ static inline uint64_t azimuths__azimuth__azimuth_by(uint64_t l1, uint64_t l2)
     return l0;
 }
 
-static inline uint64_t azimuths__sectors__azimuth(type_azimuths__azimuth__Frame l1, type_sphere__point__Point l2)
+static INLINE uint64_t azimuths__sectors__azimuth(type_azimuths__azimuth__Frame l1, type_sphere__point__Point l2)
 {
     uint64_t l0;
     uint64_t l3;
@@ -4486,7 +4499,7 @@ static inline uint64_t azimuths__sectors__azimuth(type_azimuths__azimuth__Frame 
     return l0;
 }
 
-static inline bool azimuths__sectors__turns_left(type_sphere__point__Grid l1, slice_uint32_t l2, type_sphere__point__Point l3, uint64_t l4)
+static INLINE bool azimuths__sectors__turns_left(type_sphere__point__Grid l1, slice_uint32_t l2, type_sphere__point__Point l3, uint64_t l4)
 {
     bool l0;
     uint64_t l5;
@@ -4499,7 +4512,7 @@ static inline bool azimuths__sectors__turns_left(type_sphere__point__Grid l1, sl
     return l0;
 }
 
-static inline uint64_t azimuths__sectors__gap(uint64_t l1, uint64_t l2)
+static INLINE uint64_t azimuths__sectors__gap(uint64_t l1, uint64_t l2)
 {
     uint64_t l0;
     uint64_t l3;
@@ -4510,7 +4523,7 @@ static inline uint64_t azimuths__sectors__gap(uint64_t l1, uint64_t l2)
     return l0;
 }
 
-static inline type_azimuths__sectors__Sector azimuths__sectors__sector_of(uint64_t l1, uint64_t l2, bool l3)
+static INLINE type_azimuths__sectors__Sector azimuths__sectors__sector_of(uint64_t l1, uint64_t l2, bool l3)
 {
     type_azimuths__sectors__Sector l0;
     uint64_t l4;
@@ -4531,19 +4544,19 @@ static inline type_azimuths__sectors__Sector azimuths__sectors__sector_of(uint64
     return l0;
 }
 
-static inline void azimuths__sectors__put_number(slice_uint16_t l1, uint64_t l2, uint64_t l3)
+static INLINE void azimuths__sectors__put_number(slice_uint16_t l1, uint64_t l2, uint64_t l3)
 {
     uint16_t l4;
     uint64_t l5;
     unsigned char *l6;
     l4 = (uint16_t)l3;
-    l5 = (l2 * UINT64_C(2));
+    l5 = (l2 << 1);
     l6 = ((unsigned char *)(void *)l1.f0 + (size_t)l5);
     (*(uint16_t *)(void *)l6) = l4;
     return;
 }
 
-static inline void azimuths__sectors__put_sectors(type_sphere__point__Grid l1, slice_uint32_t l2, type_sphere__point__Point l3, type_azimuths__azimuth__Frame l4, slice_uint16_t l5)
+static INLINE void azimuths__sectors__put_sectors_either(type_sphere__point__Grid l1, slice_uint32_t l2, type_sphere__point__Point l3, type_azimuths__azimuth__Frame l4, slice_uint16_t l5)
 {
     uint64_t l6;
     uint64_t l7;
@@ -4577,11 +4590,11 @@ static inline void azimuths__sectors__put_sectors(type_sphere__point__Grid l1, s
         l10 = azimuths__sectors__sector_of(l7, l9, l13);
         l16 = (uint16_t *)(void *)&(*l5.f0);
         l17 = (slice_uint16_t){.f0 = l16, .f1 = l5.f1};
-        l18 = (l8 * UINT64_C(2));
+        l18 = (l8 << 1);
         azimuths__sectors__put_number(l17, l18, l10.f0);
         l19 = (uint16_t *)(void *)&(*l5.f0);
         l20 = (slice_uint16_t){.f0 = l19, .f1 = l5.f1};
-        l18 = (l8 * UINT64_C(2));
+        l18 = (l8 << 1);
         l21 = (l18 + UINT64_C(1));
         azimuths__sectors__put_number(l20, l21, l10.f1);
         l7 = l9;
@@ -4591,14 +4604,22 @@ exit0:;
     return;
 }
 
-static inline uint64_t azimuths__sectors__wide(uint16_t l1)
+static void azimuths__sectors__put_sectors(type_sphere__point__Grid l1, slice_uint32_t l2, type_sphere__point__Point l3, type_azimuths__azimuth__Frame l4, slice_uint16_t l5)
+{
+    if (l1.tag == 0)
+        azimuths__sectors__put_sectors_either((type_sphere__point__Grid){.tag = 0}, l2, l3, l4, l5);
+    else
+        azimuths__sectors__put_sectors_either((type_sphere__point__Grid){.tag = 1}, l2, l3, l4, l5);
+}
+
+static INLINE uint64_t azimuths__sectors__wide(uint16_t l1)
 {
     uint64_t l0;
     l0 = (uint64_t)l1;
     return l0;
 }
 
-static inline bool azimuths__sectors__is_missed(slice_uint16_t l1, uint64_t l2, uint64_t l3, uint64_t l4)
+static INLINE bool azimuths__sectors__is_missed(slice_uint16_t l1, uint64_t l2, uint64_t l3, uint64_t l4)
 {
     bool l0;
     uint64_t l5;
@@ -4611,14 +4632,14 @@ static inline bool azimuths__sectors__is_missed(slice_uint16_t l1, uint64_t l2, 
     unsigned char *l12;
     bool l13;
     bool l14;
-    l7 = (l4 * UINT64_C(2));
-    l8 = (l7 * UINT64_C(2));
+    l7 = (l4 << 1);
+    l8 = (l7 << 1);
     l9 = ((unsigned char *)(void *)l1.f0 + (size_t)l8);
     l10 = (*(uint16_t *)(void *)l9);
     l5 = azimuths__sectors__wide(l10);
-    l7 = (l4 * UINT64_C(2));
+    l7 = (l4 << 1);
     l8 = (l7 + UINT64_C(1));
-    l11 = (l8 * UINT64_C(2));
+    l11 = (l8 << 1);
     l12 = ((unsigned char *)(void *)l1.f0 + (size_t)l11);
     l10 = (*(uint16_t *)(void *)l12);
     l6 = azimuths__sectors__wide(l10);
@@ -4631,7 +4652,7 @@ static inline bool azimuths__sectors__is_missed(slice_uint16_t l1, uint64_t l2, 
     return l0;
 }
 
-static inline uint64_t cones__lists__first_list(uint64_t l1, slice_uint16_t l2, uint64_t l3, uint64_t l4, slice_uint16_t l5)
+static INLINE uint64_t cones__lists__first_list(uint64_t l1, slice_uint16_t l2, uint64_t l3, uint64_t l4, slice_uint16_t l5)
 {
     uint64_t l0;
     uint64_t l6;
@@ -4650,7 +4671,7 @@ static inline uint64_t cones__lists__first_list(uint64_t l1, slice_uint16_t l2, 
             goto exit0;
         }
         l9 = (uint16_t)l7;
-        l10 = (l6 * UINT64_C(2));
+        l10 = (l6 << 1);
         l11 = ((unsigned char *)(void *)l5.f0 + (size_t)l10);
         (*(uint16_t *)(void *)l11) = l9;
         l8 = azimuths__sectors__is_missed(l2, l3, l4, l7);
@@ -4665,7 +4686,7 @@ exit0:;
     return l0;
 }
 
-static inline uint64_t cones__grow__rest(uint64_t l1, uint64_t l2, uint64_t l3)
+static INLINE uint64_t cones__grow__rest(uint64_t l1, uint64_t l2, uint64_t l3)
 {
     uint64_t l0;
     bool l4;
@@ -4686,7 +4707,7 @@ static inline uint64_t cones__grow__rest(uint64_t l1, uint64_t l2, uint64_t l3)
     return l0;
 }
 
-static inline bool cones__grow__may_halve(type_cones__table__Cone l1, uint64_t l2)
+static INLINE bool cones__grow__may_halve(type_cones__table__Cone l1, uint64_t l2)
 {
     bool l0;
     uint64_t l3;
@@ -4723,7 +4744,7 @@ static inline bool cones__grow__may_halve(type_cones__table__Cone l1, uint64_t l
     return l0;
 }
 
-static inline uint64_t azimuths__sectors__is_passed(slice_uint16_t l1, uint64_t l2, uint64_t l3)
+static INLINE uint64_t azimuths__sectors__is_passed(slice_uint16_t l1, uint64_t l2, uint64_t l3)
 {
     uint64_t l0;
     uint64_t l4;
@@ -4739,15 +4760,15 @@ static inline uint64_t azimuths__sectors__is_passed(slice_uint16_t l1, uint64_t 
     unsigned char *l14;
     uint16_t l15;
     bool l16;
-    l6 = (l3 * UINT64_C(2));
-    l7 = (l6 * UINT64_C(2));
+    l6 = (l3 << 1);
+    l7 = (l6 << 1);
     l8 = ((unsigned char *)(void *)l1.f0 + (size_t)l7);
     l9 = (*(uint16_t *)(void *)l8);
     l5 = azimuths__sectors__wide(l9);
     l4 = azimuths__sectors__gap(l2, l5);
-    l11 = (l3 * UINT64_C(2));
+    l11 = (l3 << 1);
     l12 = (l11 + UINT64_C(1));
-    l13 = (l12 * UINT64_C(2));
+    l13 = (l12 << 1);
     l14 = ((unsigned char *)(void *)l1.f0 + (size_t)l13);
     l15 = (*(uint16_t *)(void *)l14);
     l10 = azimuths__sectors__wide(l15);
@@ -4760,7 +4781,7 @@ static inline uint64_t azimuths__sectors__is_passed(slice_uint16_t l1, uint64_t 
     return l0;
 }
 
-static inline type_cones__lists__Tail cones__lists__filter(uint64_t l1, slice_uint16_t l2, uint64_t l3, uint64_t l4, uint64_t l5, slice_uint16_t l6, uint64_t l7, uint64_t l8)
+static INLINE type_cones__lists__Tail cones__lists__filter(uint64_t l1, slice_uint16_t l2, uint64_t l3, uint64_t l4, uint64_t l5, slice_uint16_t l6, uint64_t l7, uint64_t l8)
 {
     type_cones__lists__Tail l0;
     uint64_t l9;
@@ -4784,11 +4805,11 @@ static inline type_cones__lists__Tail cones__lists__filter(uint64_t l1, slice_ui
         } else {
             goto exit0;
         }
-        l15 = (l11 * UINT64_C(2));
+        l15 = (l11 << 1);
         l16 = ((unsigned char *)(void *)l6.f0 + (size_t)l15);
         l17 = (*(uint16_t *)(void *)l16);
         l12 = l17;
-        l15 = (l9 * UINT64_C(2));
+        l15 = (l9 << 1);
         l18 = ((unsigned char *)(void *)l6.f0 + (size_t)l15);
         (*(uint16_t *)(void *)l18) = l12;
         l13 = azimuths__sectors__wide(l12);
@@ -4806,7 +4827,7 @@ exit0:;
     return l0;
 }
 
-static inline type_cones__lists__Part cones__lists__sift(uint64_t l1, slice_uint16_t l2, uint64_t l3, uint64_t l4, uint64_t l5, slice_uint16_t l6, uint64_t l7, uint64_t l8)
+static INLINE type_cones__lists__Part cones__lists__sift(uint64_t l1, slice_uint16_t l2, uint64_t l3, uint64_t l4, uint64_t l5, slice_uint16_t l6, uint64_t l7, uint64_t l8)
 {
     type_cones__lists__Part l0;
     type_cones__lists__Tail l9;
@@ -4831,7 +4852,7 @@ static inline type_cones__lists__Part cones__lists__sift(uint64_t l1, slice_uint
     return l0;
 }
 
-static inline bool cones__grow__is_worth(uint64_t l1, uint64_t l2, uint64_t l3)
+static INLINE bool cones__grow__is_worth(uint64_t l1, uint64_t l2, uint64_t l3)
 {
     bool l0;
     bool l4;
@@ -4851,18 +4872,18 @@ static inline bool cones__grow__is_worth(uint64_t l1, uint64_t l2, uint64_t l3)
     }
     l4 = (UINT64_C(2048) < l1);
     if (l4) {
-        l5 = (l3 * UINT64_C(2));
+        l5 = (l3 << 1);
         l6 = (l2 * UINT64_C(3));
         l0 = (l5 <= l6);
         return l0;
     }
-    l7 = (l3 * UINT64_C(4));
+    l7 = (l3 << 2);
     l8 = (l2 * UINT64_C(7));
     l0 = (l7 <= l8);
     return l0;
 }
 
-static inline uint64_t cones__grow__share(uint64_t l1, uint64_t l2, uint64_t l3)
+static INLINE uint64_t cones__grow__share(uint64_t l1, uint64_t l2, uint64_t l3)
 {
     uint64_t l0;
     uint64_t l4;
@@ -4896,7 +4917,7 @@ static inline uint64_t cones__grow__share(uint64_t l1, uint64_t l2, uint64_t l3)
     return l0;
 }
 
-static inline type_cones__table__Cone cones__grow__half_of(type_cones__table__Cone l1, uint64_t l2, uint64_t l3, type_cones__lists__Part l4, uint64_t l5)
+static INLINE type_cones__table__Cone cones__grow__half_of(type_cones__table__Cone l1, uint64_t l2, uint64_t l3, type_cones__lists__Part l4, uint64_t l5)
 {
     type_cones__table__Cone l0;
     uint64_t l6;
@@ -4905,7 +4926,7 @@ static inline type_cones__table__Cone cones__grow__half_of(type_cones__table__Co
     return l0;
 }
 
-static inline type_cones__grow__Split cones__grow__lower(uint64_t l1, slice_uint16_t l2, slice_uint16_t l3, type_cones__table__Cone l4)
+static INLINE type_cones__grow__Split cones__grow__lower(uint64_t l1, slice_uint16_t l2, slice_uint16_t l3, type_cones__table__Cone l4)
 {
     type_cones__grow__Split l0;
     uint64_t l5;
@@ -4954,13 +4975,13 @@ static inline type_cones__grow__Split cones__grow__lower(uint64_t l1, slice_uint
     return l0;
 }
 
-static inline bool cones__table__has_room(uint64_t l1, uint64_t l2, uint64_t l3, uint64_t l4, uint64_t l5)
+static INLINE bool cones__table__has_room(uint64_t l1, uint64_t l2, uint64_t l3, uint64_t l4, uint64_t l5)
 {
     bool l0;
     uint64_t l6;
     uint64_t l7;
     bool l8;
-    l6 = (l3 * UINT64_C(4));
+    l6 = (l3 << 2);
     l7 = (l1 - l6);
     l8 = (l7 < UINT64_C(4));
     if (l8) {
@@ -4982,7 +5003,7 @@ static inline bool cones__table__has_room(uint64_t l1, uint64_t l2, uint64_t l3,
     return l0;
 }
 
-static inline void cones__table__copy(slice_uint16_t l1, uint64_t l2, uint64_t l3, slice_uint16_t l4, uint64_t l5)
+static INLINE void cones__table__copy(slice_uint16_t l1, uint64_t l2, uint64_t l3, slice_uint16_t l4, uint64_t l5)
 {
     uint64_t l6;
     bool l7;
@@ -5000,12 +5021,12 @@ static inline void cones__table__copy(slice_uint16_t l1, uint64_t l2, uint64_t l
         } else {
             goto exit0;
         }
-        l8 = (l6 * UINT64_C(2));
+        l8 = (l6 << 1);
         l9 = ((unsigned char *)(void *)l1.f0 + (size_t)l8);
         l10 = (*(uint16_t *)(void *)l9);
         l11 = (l6 - l2);
         l12 = (l5 + l11);
-        l13 = (l12 * UINT64_C(2));
+        l13 = (l12 << 1);
         l14 = ((unsigned char *)(void *)l4.f0 + (size_t)l13);
         (*(uint16_t *)(void *)l14) = l10;
         l6 = (l6 + UINT64_C(1));
@@ -5014,7 +5035,7 @@ exit0:;
     return;
 }
 
-static inline uint64_t cones__table__put_node(uint64_t l1, slice_uint16_t l2, slice_uint16_t l3, slice_uint16_t l4, slice_uint16_t l5, type_cones__table__Cone l6, uint64_t l7, uint64_t l8)
+static INLINE uint64_t cones__table__put_node(uint64_t l1, slice_uint16_t l2, slice_uint16_t l3, slice_uint16_t l4, slice_uint16_t l5, type_cones__table__Cone l6, uint64_t l7, uint64_t l8)
 {
     uint64_t l0;
     uint64_t l9;
@@ -5043,28 +5064,28 @@ static inline uint64_t cones__table__put_node(uint64_t l1, slice_uint16_t l2, sl
     cones__table__copy(l5, l9, l10, l15, l8);
     l16 = (uint16_t *)(void *)&(*l3.f0);
     l17 = (slice_uint16_t){.f0 = l16, .f1 = l3.f1};
-    l12 = (l7 * UINT64_C(4));
+    l12 = (l7 << 2);
     azimuths__sectors__put_number(l17, l12, l6.f2);
     l18 = (uint16_t *)(void *)&(*l3.f0);
     l19 = (slice_uint16_t){.f0 = l18, .f1 = l3.f1};
-    l12 = (l7 * UINT64_C(4));
+    l12 = (l7 << 2);
     l20 = (l12 + UINT64_C(1));
     azimuths__sectors__put_number(l19, l20, l6.f3);
     l21 = (uint16_t *)(void *)&(*l3.f0);
     l22 = (slice_uint16_t){.f0 = l21, .f1 = l3.f1};
-    l20 = (l7 * UINT64_C(4));
+    l20 = (l7 << 2);
     l12 = (l20 + UINT64_C(2));
     azimuths__sectors__put_number(l22, l12, l8);
     l23 = (uint16_t *)(void *)&(*l3.f0);
     l24 = (slice_uint16_t){.f0 = l23, .f1 = l3.f1};
-    l12 = (l7 * UINT64_C(4));
+    l12 = (l7 << 2);
     l20 = (l12 + UINT64_C(3));
     azimuths__sectors__put_number(l24, l20, l11);
     l0 = l11;
     return l0;
 }
 
-static inline type_cones__table__Size cones__table__put_leaf(uint64_t l1, slice_uint16_t l2, slice_uint16_t l3, slice_uint16_t l4, slice_uint16_t l5, type_cones__table__Cone l6, type_cones__table__Size l7)
+static INLINE type_cones__table__Size cones__table__put_leaf(uint64_t l1, slice_uint16_t l2, slice_uint16_t l3, slice_uint16_t l4, slice_uint16_t l5, type_cones__table__Cone l6, type_cones__table__Size l7)
 {
     type_cones__table__Size l0;
     uint64_t l8;
@@ -5107,7 +5128,7 @@ static inline type_cones__table__Size cones__table__put_leaf(uint64_t l1, slice_
     return l0;
 }
 
-static inline type_cones__table__Cone cones__grow__upper(uint64_t l1, slice_uint16_t l2, slice_uint16_t l3, type_cones__table__Cone l4, uint64_t l5, uint64_t l6)
+static INLINE type_cones__table__Cone cones__grow__upper(uint64_t l1, slice_uint16_t l2, slice_uint16_t l3, type_cones__table__Cone l4, uint64_t l5, uint64_t l6)
 {
     type_cones__table__Cone l0;
     uint64_t l7;
@@ -5128,7 +5149,7 @@ static inline type_cones__table__Cone cones__grow__upper(uint64_t l1, slice_uint
     return l0;
 }
 
-static inline type_cones__table__Size cones__grow__grow(uint64_t l1, slice_uint16_t l2, slice_uint16_t l3, slice_uint16_t l4, slice_uint16_t l5, type_cones__table__Cone l6, type_cones__table__Size l7)
+static type_cones__table__Size cones__grow__grow(uint64_t l1, slice_uint16_t l2, slice_uint16_t l3, slice_uint16_t l4, slice_uint16_t l5, type_cones__table__Cone l6, type_cones__table__Size l7)
 {
     type_cones__table__Size l0;
     type_cones__table__Cone l8;
@@ -5203,7 +5224,7 @@ static inline type_cones__table__Size cones__grow__grow(uint64_t l1, slice_uint1
     return l0;
 }
 
-static inline type_cones__table__Size cones__build__grow_root(uint64_t l1, slice_uint16_t l2, slice_uint16_t l3, slice_uint16_t l4, slice_uint16_t l5, uint64_t l6, type_cones__table__Size l7)
+static INLINE type_cones__table__Size cones__build__grow_root(uint64_t l1, slice_uint16_t l2, slice_uint16_t l3, slice_uint16_t l4, slice_uint16_t l5, uint64_t l6, type_cones__table__Size l7)
 {
     type_cones__table__Size l0;
     uint64_t l8;
@@ -5221,7 +5242,7 @@ static inline type_cones__table__Size cones__build__grow_root(uint64_t l1, slice
     slice_uint16_t l20;
     uint16_t *l21;
     slice_uint16_t l22;
-    l8 = (l6 * UINT64_C(16384));
+    l8 = (l6 << 14);
     l9 = (l8 + UINT64_C(16383));
     l13 = (uint16_t *)(void *)&(*l5.f0);
     l14 = (slice_uint16_t){.f0 = l13, .f1 = l5.f1};
@@ -5240,7 +5261,7 @@ static inline type_cones__table__Size cones__build__grow_root(uint64_t l1, slice
     return l0;
 }
 
-static inline type_cones__table__Size cones__build__grow_roots(uint64_t l1, slice_uint16_t l2, slice_uint16_t l3, slice_uint16_t l4, slice_uint16_t l5)
+static INLINE type_cones__table__Size cones__build__grow_roots(uint64_t l1, slice_uint16_t l2, slice_uint16_t l3, slice_uint16_t l4, slice_uint16_t l5)
 {
     type_cones__table__Size l0;
     type_cones__table__Size l6;
@@ -5274,7 +5295,7 @@ exit0:;
     return l0;
 }
 
-static inline void cones__buckets__mark(slice_uint16_t l1, uint64_t l2, slice_uint16_t l3)
+static INLINE void cones__buckets__mark(slice_uint16_t l1, uint64_t l2, slice_uint16_t l3)
 {
     uint64_t l4;
     uint64_t l5;
@@ -5292,8 +5313,8 @@ static inline void cones__buckets__mark(slice_uint16_t l1, uint64_t l2, slice_ui
         } else {
             goto exit0;
         }
-        l8 = (l4 * UINT64_C(4));
-        l9 = (l8 * UINT64_C(2));
+        l8 = (l4 << 2);
+        l9 = (l8 << 1);
         l10 = ((unsigned char *)(void *)l1.f0 + (size_t)l9);
         l11 = (*(uint16_t *)(void *)l10);
         l7 = azimuths__sectors__wide(l11);
@@ -5301,7 +5322,7 @@ static inline void cones__buckets__mark(slice_uint16_t l1, uint64_t l2, slice_ui
         l7 = (l4 + UINT64_C(1));
         l11 = (uint16_t)l7;
         l9 = (l5 + UINT64_C(1));
-        l8 = (l9 * UINT64_C(2));
+        l8 = (l9 << 1);
         l12 = ((unsigned char *)(void *)l3.f0 + (size_t)l8);
         (*(uint16_t *)(void *)l12) = l11;
         l4 = (l4 + UINT64_C(1));
@@ -5310,7 +5331,7 @@ exit0:;
     return;
 }
 
-static inline void cones__buckets__raise(slice_uint16_t l1)
+static INLINE void cones__buckets__raise(slice_uint16_t l1)
 {
     uint16_t l2;
     uint64_t l3;
@@ -5330,7 +5351,7 @@ static inline void cones__buckets__raise(slice_uint16_t l1)
         } else {
             goto exit0;
         }
-        l7 = (l3 * UINT64_C(2));
+        l7 = (l3 << 1);
         l8 = ((unsigned char *)(void *)l1.f0 + (size_t)l7);
         l9 = (*(uint16_t *)(void *)l8);
         l4 = l9;
@@ -5338,7 +5359,7 @@ static inline void cones__buckets__raise(slice_uint16_t l1)
         if (l6) {
             l2 = l4;
         }
-        l7 = (l3 * UINT64_C(2));
+        l7 = (l3 << 1);
         l10 = ((unsigned char *)(void *)l1.f0 + (size_t)l7);
         (*(uint16_t *)(void *)l10) = l2;
         l3 = (l3 + UINT64_C(1));
@@ -5347,7 +5368,7 @@ exit0:;
     return;
 }
 
-static inline void cones__buckets__fill(slice_uint16_t l1, uint64_t l2, slice_uint16_t l3)
+static INLINE void cones__buckets__fill(slice_uint16_t l1, uint64_t l2, slice_uint16_t l3)
 {
     uint16_t *l5;
     slice_uint16_t l6;
@@ -5362,7 +5383,7 @@ static inline void cones__buckets__fill(slice_uint16_t l1, uint64_t l2, slice_ui
     return;
 }
 
-static inline type_cones__build__Index cones__build__build(type_sphere__point__Grid l1, slice_uint32_t l2, type_sphere__point__Point l3, slice_uint16_t l4, slice_uint16_t l5, slice_uint16_t l6, slice_uint16_t l7, slice_uint16_t l8)
+static INLINE type_cones__build__Index cones__build__build(type_sphere__point__Grid l1, slice_uint32_t l2, type_sphere__point__Point l3, slice_uint16_t l4, slice_uint16_t l5, slice_uint16_t l6, slice_uint16_t l7, slice_uint16_t l8)
 {
     type_cones__build__Index l0;
     type_azimuths__azimuth__Frame l9;
@@ -5407,7 +5428,7 @@ static inline type_cones__build__Index cones__build__build(type_sphere__point__G
     return l0;
 }
 
-static inline type_search__walk__Mode feed__mode_for(uint64_t l1)
+static INLINE type_search__walk__Mode feed__mode_for(uint64_t l1)
 {
     type_search__walk__Mode l0;
     bool l2;
@@ -5420,7 +5441,7 @@ static inline type_search__walk__Mode feed__mode_for(uint64_t l1)
     return l0;
 }
 
-static inline bool feed__indexed__is_left_out(type_sphere__point__Grid l1, uint64_t l2, type_sphere__point__Point l3, type_sphere__point__Point l4)
+static INLINE bool feed__indexed__is_left_out(type_sphere__point__Grid l1, uint64_t l2, type_sphere__point__Point l3, type_sphere__point__Point l4)
 {
     bool l0;
     bool l5;
@@ -5439,7 +5460,7 @@ static inline bool feed__indexed__is_left_out(type_sphere__point__Grid l1, uint6
     return l0;
 }
 
-static inline uint64_t cones__query__least(uint64_t l1, uint64_t l2)
+static INLINE uint64_t cones__query__least(uint64_t l1, uint64_t l2)
 {
     uint64_t l0;
     bool l3;
@@ -5452,7 +5473,7 @@ static inline uint64_t cones__query__least(uint64_t l1, uint64_t l2)
     return l0;
 }
 
-static inline uint64_t cones__query__locate(slice_uint16_t l1, uint64_t l2, uint64_t l3, uint64_t l4, uint64_t l5)
+static INLINE uint64_t cones__query__locate(slice_uint16_t l1, uint64_t l2, uint64_t l3, uint64_t l4, uint64_t l5)
 {
     uint64_t l0;
     uint64_t l6;
@@ -5475,8 +5496,8 @@ static inline uint64_t cones__query__locate(slice_uint16_t l1, uint64_t l2, uint
         l10 = (l6 - l7);
         l11 = (l10 / UINT64_C(2));
         l8 = (l7 + l11);
-        l11 = (l8 * UINT64_C(4));
-        l12 = (l11 * UINT64_C(2));
+        l11 = (l8 << 2);
+        l12 = (l11 << 1);
         l13 = ((unsigned char *)(void *)l1.f0 + (size_t)l12);
         l14 = (*(uint16_t *)(void *)l13);
         l10 = azimuths__sectors__wide(l14);
@@ -5492,7 +5513,7 @@ exit0:;
     return l0;
 }
 
-static inline uint64_t cones__query__guess(slice_uint16_t l1, slice_uint16_t l2, uint64_t l3, uint64_t l4)
+static INLINE uint64_t cones__query__guess(slice_uint16_t l1, slice_uint16_t l2, uint64_t l3, uint64_t l4)
 {
     uint64_t l0;
     uint64_t l5;
@@ -5512,12 +5533,12 @@ static inline uint64_t cones__query__guess(slice_uint16_t l1, slice_uint16_t l2,
         l0 = UINT64_C(0);
         return l0;
     }
-    l8 = (l5 * UINT64_C(2));
+    l8 = (l5 << 1);
     l11 = ((unsigned char *)(void *)l2.f0 + (size_t)l8);
     l12 = (*(uint16_t *)(void *)l11);
     l6 = azimuths__sectors__wide(l12);
     l9 = (l5 + UINT64_C(1));
-    l8 = (l9 * UINT64_C(2));
+    l8 = (l9 << 1);
     l13 = ((unsigned char *)(void *)l2.f0 + (size_t)l8);
     l12 = (*(uint16_t *)(void *)l13);
     l7 = azimuths__sectors__wide(l12);
@@ -5525,7 +5546,7 @@ static inline uint64_t cones__query__guess(slice_uint16_t l1, slice_uint16_t l2,
     return l0;
 }
 
-static inline bool cones__query__is_aside(uint64_t l1, uint64_t l2)
+static INLINE bool cones__query__is_aside(uint64_t l1, uint64_t l2)
 {
     bool l0;
     bool l3;
@@ -5538,7 +5559,7 @@ static inline bool cones__query__is_aside(uint64_t l1, uint64_t l2)
     return l0;
 }
 
-static inline type_cones__table__Row cones__table__row_at(slice_uint16_t l1, uint64_t l2)
+static INLINE type_cones__table__Row cones__table__row_at(slice_uint16_t l1, uint64_t l2)
 {
     type_cones__table__Row l0;
     uint64_t l3;
@@ -5561,23 +5582,23 @@ static inline type_cones__table__Row cones__table__row_at(slice_uint16_t l1, uin
     uint64_t l20;
     unsigned char *l21;
     uint16_t l22;
-    l3 = (l2 * UINT64_C(4));
-    l5 = (l3 * UINT64_C(2));
+    l3 = (l2 << 2);
+    l5 = (l3 << 1);
     l6 = ((unsigned char *)(void *)l1.f0 + (size_t)l5);
     l7 = (*(uint16_t *)(void *)l6);
     l4 = azimuths__sectors__wide(l7);
     l9 = (l3 + UINT64_C(1));
-    l10 = (l9 * UINT64_C(2));
+    l10 = (l9 << 1);
     l11 = ((unsigned char *)(void *)l1.f0 + (size_t)l10);
     l12 = (*(uint16_t *)(void *)l11);
     l8 = azimuths__sectors__wide(l12);
     l14 = (l3 + UINT64_C(2));
-    l15 = (l14 * UINT64_C(2));
+    l15 = (l14 << 1);
     l16 = ((unsigned char *)(void *)l1.f0 + (size_t)l15);
     l17 = (*(uint16_t *)(void *)l16);
     l13 = azimuths__sectors__wide(l17);
     l19 = (l3 + UINT64_C(3));
-    l20 = (l19 * UINT64_C(2));
+    l20 = (l19 << 1);
     l21 = ((unsigned char *)(void *)l1.f0 + (size_t)l20);
     l22 = (*(uint16_t *)(void *)l21);
     l18 = azimuths__sectors__wide(l22);
@@ -5585,7 +5606,7 @@ static inline type_cones__table__Row cones__table__row_at(slice_uint16_t l1, uin
     return l0;
 }
 
-static inline bool azimuths__sectors__is_missed_at(slice_uint16_t l1, uint64_t l2, uint64_t l3)
+static INLINE bool azimuths__sectors__is_missed_at(slice_uint16_t l1, uint64_t l2, uint64_t l3)
 {
     bool l0;
     uint64_t l4;
@@ -5600,15 +5621,15 @@ static inline bool azimuths__sectors__is_missed_at(slice_uint16_t l1, uint64_t l
     uint64_t l13;
     unsigned char *l14;
     uint16_t l15;
-    l6 = (l3 * UINT64_C(2));
-    l7 = (l6 * UINT64_C(2));
+    l6 = (l3 << 1);
+    l7 = (l6 << 1);
     l8 = ((unsigned char *)(void *)l1.f0 + (size_t)l7);
     l9 = (*(uint16_t *)(void *)l8);
     l5 = azimuths__sectors__wide(l9);
     l4 = azimuths__sectors__gap(l2, l5);
-    l11 = (l3 * UINT64_C(2));
+    l11 = (l3 << 1);
     l12 = (l11 + UINT64_C(1));
-    l13 = (l12 * UINT64_C(2));
+    l13 = (l12 << 1);
     l14 = ((unsigned char *)(void *)l1.f0 + (size_t)l13);
     l15 = (*(uint16_t *)(void *)l14);
     l10 = azimuths__sectors__wide(l15);
@@ -5616,7 +5637,7 @@ static inline bool azimuths__sectors__is_missed_at(slice_uint16_t l1, uint64_t l
     return l0;
 }
 
-static inline uint64_t cones__near__gather(uint64_t l1, slice_uint16_t l2, uint64_t l3, slice_uint16_t l4, uint64_t l5, uint64_t l6, slice_uint16_t l7)
+static INLINE uint64_t cones__near__gather(uint64_t l1, slice_uint16_t l2, uint64_t l3, slice_uint16_t l4, uint64_t l5, uint64_t l6, slice_uint16_t l7)
 {
     uint64_t l0;
     uint64_t l8;
@@ -5637,11 +5658,11 @@ static inline uint64_t cones__near__gather(uint64_t l1, slice_uint16_t l2, uint6
         } else {
             goto exit0;
         }
-        l12 = (l9 * UINT64_C(2));
+        l12 = (l9 << 1);
         l13 = ((unsigned char *)(void *)l4.f0 + (size_t)l12);
         l14 = (*(uint16_t *)(void *)l13);
         l10 = l14;
-        l12 = (l8 * UINT64_C(2));
+        l12 = (l8 << 1);
         l15 = ((unsigned char *)(void *)l7.f0 + (size_t)l12);
         (*(uint16_t *)(void *)l15) = l10;
         l12 = azimuths__sectors__wide(l10);
@@ -5657,7 +5678,7 @@ exit0:;
     return l0;
 }
 
-static inline type_cones__sure__SureSide cones__sure__whole_side(type_sphere__point__Point l1, type_sphere__point__Point l2)
+static INLINE type_cones__sure__SureSide cones__sure__whole_side(type_sphere__point__Point l1, type_sphere__point__Point l2)
 {
     type_cones__sure__SureSide l0;
     uint64_t l3;
@@ -5670,7 +5691,7 @@ static inline type_cones__sure__SureSide cones__sure__whole_side(type_sphere__po
     return l0;
 }
 
-static inline type_cones__sure__SureSide cones__sure__float_side(type_sphere__point__Point l1, type_sphere__approximate__Vector l2, type_sphere__point__Point l3)
+static INLINE type_cones__sure__SureSide cones__sure__float_side(type_sphere__point__Point l1, type_sphere__approximate__Vector l2, type_sphere__point__Point l3)
 {
     type_cones__sure__SureSide l0;
     double l4;
@@ -5686,7 +5707,7 @@ static inline type_cones__sure__SureSide cones__sure__float_side(type_sphere__po
     return l0;
 }
 
-static inline type_cones__sure__SureSide cones__sure__sure_side(type_sphere__plane__Plane l1, type_sphere__point__Point l2)
+static INLINE type_cones__sure__SureSide cones__sure__sure_side(type_sphere__plane__Plane l1, type_sphere__point__Point l2)
 {
     type_cones__sure__SureSide l0;
     type_sphere__point__Grid l3;
@@ -5706,7 +5727,7 @@ static inline type_cones__sure__SureSide cones__sure__sure_side(type_sphere__pla
     return l0;
 }
 
-static inline type_azimuths__sectors__Passage azimuths__sectors__passage_at(slice_uint16_t l1, uint64_t l2, uint64_t l3)
+static INLINE type_azimuths__sectors__Passage azimuths__sectors__passage_at(slice_uint16_t l1, uint64_t l2, uint64_t l3)
 {
     type_azimuths__sectors__Passage l0;
     uint64_t l4;
@@ -5723,16 +5744,16 @@ static inline type_azimuths__sectors__Passage azimuths__sectors__passage_at(slic
     bool l15;
     uint64_t l16;
     bool l17;
-    l6 = (l3 * UINT64_C(2));
-    l7 = (l6 * UINT64_C(2));
+    l6 = (l3 << 1);
+    l7 = (l6 << 1);
     l8 = ((unsigned char *)(void *)l1.f0 + (size_t)l7);
     l9 = (*(uint16_t *)(void *)l8);
     l4 = azimuths__sectors__wide(l9);
     l5 = azimuths__sectors__gap(l2, l4);
     l10 = (UINT64_C(1) < l5);
-    l7 = (l3 * UINT64_C(2));
+    l7 = (l3 << 1);
     l11 = (l7 + UINT64_C(1));
-    l12 = (l11 * UINT64_C(2));
+    l12 = (l11 << 1);
     l13 = ((unsigned char *)(void *)l1.f0 + (size_t)l12);
     l9 = (*(uint16_t *)(void *)l13);
     l6 = azimuths__sectors__wide(l9);
@@ -5744,7 +5765,7 @@ static inline type_azimuths__sectors__Passage azimuths__sectors__passage_at(slic
     return l0;
 }
 
-static inline uint32_t cones__told__way_by(bool l1, bool l2)
+static INLINE uint32_t cones__told__way_by(bool l1, bool l2)
 {
     uint32_t l0;
     bool l3;
@@ -5762,7 +5783,7 @@ static inline uint32_t cones__told__way_by(bool l1, bool l2)
     return l0;
 }
 
-static inline type_cones__told__Told cones__told__tell(type_sphere__point__Grid l1, slice_uint32_t l2, type_sphere__point__Point l3, type_sphere__point__Point l4, slice_uint16_t l5, uint64_t l6, slice_uint16_t l7, uint64_t l8, type_cones__told__Told l9)
+static INLINE type_cones__told__Told cones__told__tell_either(type_sphere__point__Grid l1, slice_uint32_t l2, type_sphere__point__Point l3, type_sphere__point__Point l4, slice_uint16_t l5, uint64_t l6, slice_uint16_t l7, uint64_t l8, type_cones__told__Told l9)
 {
     type_cones__told__Told l0;
     uint64_t l10;
@@ -5791,7 +5812,7 @@ static inline type_cones__told__Told cones__told__tell(type_sphere__point__Grid 
         } else {
             goto exit0;
         }
-        l20 = (l10 * UINT64_C(2));
+        l20 = (l10 << 1);
         l21 = ((unsigned char *)(void *)l7.f0 + (size_t)l20);
         l22 = (*(uint16_t *)(void *)l21);
         l13 = azimuths__sectors__wide(l22);
@@ -5816,7 +5837,12 @@ exit0:;
     return l0;
 }
 
-static inline bool cones__walk__is_border(slice_uint32_t l1, slice_uint16_t l2, uint64_t l3, uint64_t l4)
+static INLINE type_cones__told__Told cones__told__tell(type_sphere__point__Grid l1, slice_uint32_t l2, type_sphere__point__Point l3, type_sphere__point__Point l4, slice_uint16_t l5, uint64_t l6, slice_uint16_t l7, uint64_t l8, type_cones__told__Told l9)
+{
+    return l1.tag == 0 ? cones__told__tell_either((type_sphere__point__Grid){.tag = 0}, l2, l3, l4, l5, l6, l7, l8, l9) : cones__told__tell_either((type_sphere__point__Grid){.tag = 1}, l2, l3, l4, l5, l6, l7, l8, l9);
+}
+
+static bool cones__walk__is_border(slice_uint32_t l1, slice_uint16_t l2, uint64_t l3, uint64_t l4)
 {
     bool l0;
     type_sphere__point__Point l5;
@@ -5841,7 +5867,7 @@ static inline bool cones__walk__is_border(slice_uint32_t l1, slice_uint16_t l2, 
         } else {
             goto exit0;
         }
-        l12 = (l8 * UINT64_C(2));
+        l12 = (l8 << 1);
         l13 = ((unsigned char *)(void *)l2.f0 + (size_t)l12);
         l14 = (*(uint16_t *)(void *)l13);
         l9 = azimuths__sectors__wide(l14);
@@ -5863,7 +5889,7 @@ exit0:;
     return l0;
 }
 
-static inline bool cones__walk__is_on_border(slice_uint32_t l1, type_search__arc__Arc l2, slice_uint16_t l3, uint64_t l4, uint64_t l5, uint64_t l6)
+static INLINE bool cones__walk__is_on_border(slice_uint32_t l1, type_search__arc__Arc l2, slice_uint16_t l3, uint64_t l4, uint64_t l5, uint64_t l6)
 {
     bool l0;
     bool l7;
@@ -5880,7 +5906,7 @@ static inline bool cones__walk__is_on_border(slice_uint32_t l1, type_search__arc
     return l0;
 }
 
-static inline type_search__walk__EdgeTest cones__walk__test_listed(slice_uint32_t l1, type_search__arc__Arc l2, slice_uint16_t l3, uint64_t l4, uint64_t l5)
+static type_search__walk__EdgeTest cones__walk__test_listed(slice_uint32_t l1, type_search__arc__Arc l2, slice_uint16_t l3, uint64_t l4, uint64_t l5)
 {
     type_search__walk__EdgeTest l0;
     type_sphere__plane__Plane l6;
@@ -5917,7 +5943,7 @@ static inline type_search__walk__EdgeTest cones__walk__test_listed(slice_uint32_
     return l0;
 }
 
-static inline type_search__walk__EdgeTest cones__told__test_unsure(type_sphere__point__Grid l1, slice_uint32_t l2, type_sphere__point__Point l3, type_sphere__point__Point l4, slice_uint16_t l5, uint64_t l6, uint64_t l7)
+static INLINE type_search__walk__EdgeTest cones__told__test_unsure(type_sphere__point__Grid l1, slice_uint32_t l2, type_sphere__point__Point l3, type_sphere__point__Point l4, slice_uint16_t l5, uint64_t l6, uint64_t l7)
 {
     type_search__walk__EdgeTest l0;
     type_search__arc__Arc l8;
@@ -5926,7 +5952,7 @@ static inline type_search__walk__EdgeTest cones__told__test_unsure(type_sphere__
     return l0;
 }
 
-static inline type_search__walk__Tally cones__told__walk_near(type_sphere__point__Grid l1, slice_uint32_t l2, type_sphere__point__Point l3, type_sphere__point__Point l4, slice_uint16_t l5, uint64_t l6, slice_uint16_t l7, uint64_t l8)
+static INLINE type_search__walk__Tally cones__told__walk_near_either(type_sphere__point__Grid l1, slice_uint32_t l2, type_sphere__point__Point l3, type_sphere__point__Point l4, slice_uint16_t l5, uint64_t l6, slice_uint16_t l7, uint64_t l8)
 {
     type_search__walk__Tally l0;
     uint64_t l9;
@@ -5960,7 +5986,7 @@ static inline type_search__walk__Tally cones__told__walk_near(type_sphere__point
             l18 = (type_answer__Found){.tag = 0};
             goto exit0;
         }
-        l20 = (l9 * UINT64_C(2));
+        l20 = (l9 << 1);
         l21 = ((unsigned char *)(void *)l7.f0 + (size_t)l20);
         l22 = (*(uint16_t *)(void *)l21);
         l15 = azimuths__sectors__wide(l22);
@@ -5989,7 +6015,12 @@ exit0:;
     return l0;
 }
 
-static inline type_search__walk__Tally cones__told__tally_near(type_sphere__point__Grid l1, slice_uint32_t l2, type_sphere__point__Point l3, type_sphere__point__Point l4, slice_uint16_t l5, uint64_t l6, slice_uint16_t l7, uint64_t l8, uint64_t l9, slice_uint16_t l10)
+static type_search__walk__Tally cones__told__walk_near(type_sphere__point__Grid l1, slice_uint32_t l2, type_sphere__point__Point l3, type_sphere__point__Point l4, slice_uint16_t l5, uint64_t l6, slice_uint16_t l7, uint64_t l8)
+{
+    return l1.tag == 0 ? cones__told__walk_near_either((type_sphere__point__Grid){.tag = 0}, l2, l3, l4, l5, l6, l7, l8) : cones__told__walk_near_either((type_sphere__point__Grid){.tag = 1}, l2, l3, l4, l5, l6, l7, l8);
+}
+
+static INLINE type_search__walk__Tally cones__told__tally_near(type_sphere__point__Grid l1, slice_uint32_t l2, type_sphere__point__Point l3, type_sphere__point__Point l4, slice_uint16_t l5, uint64_t l6, slice_uint16_t l7, uint64_t l8, uint64_t l9, slice_uint16_t l10)
 {
     type_search__walk__Tally l0;
     uint64_t l11;
@@ -6010,7 +6041,7 @@ static inline type_search__walk__Tally cones__told__tally_near(type_sphere__poin
     return l0;
 }
 
-static inline type_search__walk__Tally cones__query__tally_edges(type_sphere__point__Grid l1, slice_uint32_t l2, slice_uint32_t l3, slice_uint16_t l4, slice_uint16_t l5, slice_uint16_t l6, slice_uint16_t l7, slice_uint16_t l8, type_cones__build__Index l9, type_sphere__point__Point l10, type_sphere__point__Point l11, type_search__walk__Mode l12)
+static type_search__walk__Tally cones__query__tally_edges(type_sphere__point__Grid l1, slice_uint32_t l2, slice_uint32_t l3, slice_uint16_t l4, slice_uint16_t l5, slice_uint16_t l6, slice_uint16_t l7, slice_uint16_t l8, type_cones__build__Index l9, type_sphere__point__Point l10, type_sphere__point__Point l11, type_search__walk__Mode l12)
 {
     type_search__walk__Tally l0;
     type_azimuths__azimuth__Frame l13;
@@ -6067,7 +6098,7 @@ static inline type_search__walk__Tally cones__query__tally_edges(type_sphere__po
     return l0;
 }
 
-static inline type_answer__Answer feed__indexed__judge_indexed(type_sphere__point__Grid l1, slice_uint32_t l2, slice_uint32_t l3, slice_uint16_t l4, slice_uint16_t l5, slice_uint16_t l6, slice_uint16_t l7, slice_uint16_t l8, type_cones__build__Index l9, type_sphere__point__Point l10, type_sphere__point__Point l11, type_sphere__point__Point l12, type_search__walk__Mode l13)
+static INLINE type_answer__Answer feed__indexed__judge_indexed(type_sphere__point__Grid l1, slice_uint32_t l2, slice_uint32_t l3, slice_uint16_t l4, slice_uint16_t l5, slice_uint16_t l6, slice_uint16_t l7, slice_uint16_t l8, type_cones__build__Index l9, type_sphere__point__Point l10, type_sphere__point__Point l11, type_sphere__point__Point l12, type_search__walk__Mode l13)
 {
     type_answer__Answer l0;
     bool l14;
@@ -6088,13 +6119,12 @@ static inline type_answer__Answer feed__indexed__judge_indexed(type_sphere__poin
     return l0;
 }
 
-static inline void big_endian__store__put_word(slice_uint8_t l1, uint64_t l2, uint32_t l3)
+static INLINE void big_endian__store__put_word(slice_uint8_t l1, uint64_t l2, uint32_t l3)
 {
     uint32_t l4;
     uint32_t l5;
     uint8_t l6;
     unsigned char *l7;
-    uint64_t l8;
     unsigned char *l9;
     unsigned char *l10;
     unsigned char *l11;
@@ -6106,24 +6136,21 @@ static inline void big_endian__store__put_word(slice_uint8_t l1, uint64_t l2, ui
     l4 = (l3 / UINT32_C(65536));
     l5 = (l4 % UINT32_C(256));
     l6 = (uint8_t)l5;
-    l8 = (l2 + UINT64_C(1));
-    l9 = ((unsigned char *)(void *)l1.f0 + (size_t)l8);
+    l9 = (l7 + UINT64_C(1));
     (*(uint8_t *)(void *)l9) = l6;
     l4 = (l3 / UINT32_C(256));
     l5 = (l4 % UINT32_C(256));
     l6 = (uint8_t)l5;
-    l8 = (l2 + UINT64_C(2));
-    l10 = ((unsigned char *)(void *)l1.f0 + (size_t)l8);
+    l10 = (l7 + UINT64_C(2));
     (*(uint8_t *)(void *)l10) = l6;
     l4 = (l3 % UINT32_C(256));
     l6 = (uint8_t)l4;
-    l8 = (l2 + UINT64_C(3));
-    l11 = ((unsigned char *)(void *)l1.f0 + (size_t)l8);
+    l11 = (l7 + UINT64_C(3));
     (*(uint8_t *)(void *)l11) = l6;
     return;
 }
 
-static inline void feed__store_result(slice_uint8_t l1, uint64_t l2, type_answer__Answer l3)
+static INLINE void feed__store_result(slice_uint8_t l1, uint64_t l2, type_answer__Answer l3)
 {
     uint8_t *l5;
     slice_uint8_t l6;
@@ -6152,7 +6179,7 @@ static inline void feed__store_result(slice_uint8_t l1, uint64_t l2, type_answer
     return;
 }
 
-static inline void feed__judge_one(type_sphere__point__Grid l1, slice_uint32_t l2, slice_uint32_t l3, slice_uint16_t l4, slice_uint16_t l5, slice_uint16_t l6, slice_uint16_t l7, slice_uint16_t l8, type_cones__build__Index l9, type_sphere__point__Point l10, type_sphere__point__Point l11, slice_uint8_t l12, uint64_t l13, slice_uint8_t l14)
+static void feed__judge_one(type_sphere__point__Grid l1, slice_uint32_t l2, slice_uint32_t l3, slice_uint16_t l4, slice_uint16_t l5, slice_uint16_t l6, slice_uint16_t l7, slice_uint16_t l8, type_cones__build__Index l9, type_sphere__point__Point l10, type_sphere__point__Point l11, slice_uint8_t l12, uint64_t l13, slice_uint8_t l14)
 {
     uint64_t l15;
     type_sphere__point__Point l16;
@@ -6176,7 +6203,7 @@ static inline void feed__judge_one(type_sphere__point__Grid l1, slice_uint32_t l
     return;
 }
 
-static inline void feed__judge_all(type_sphere__point__Grid l1, slice_uint32_t l2, slice_uint32_t l3, slice_uint16_t l4, slice_uint16_t l5, slice_uint16_t l6, slice_uint16_t l7, slice_uint16_t l8, type_cones__build__Index l9, type_sphere__point__Point l10, type_sphere__point__Point l11, slice_uint8_t l12, slice_uint8_t l13)
+static INLINE void feed__judge_all_either(type_sphere__point__Grid l1, slice_uint32_t l2, slice_uint32_t l3, slice_uint16_t l4, slice_uint16_t l5, slice_uint16_t l6, slice_uint16_t l7, slice_uint16_t l8, type_cones__build__Index l9, type_sphere__point__Point l10, type_sphere__point__Point l11, slice_uint8_t l12, slice_uint8_t l13)
 {
     uint64_t l14;
     uint64_t l15;
@@ -6204,6 +6231,14 @@ static inline void feed__judge_all(type_sphere__point__Grid l1, slice_uint32_t l
     }
 exit0:;
     return;
+}
+
+static INLINE void feed__judge_all(type_sphere__point__Grid l1, slice_uint32_t l2, slice_uint32_t l3, slice_uint16_t l4, slice_uint16_t l5, slice_uint16_t l6, slice_uint16_t l7, slice_uint16_t l8, type_cones__build__Index l9, type_sphere__point__Point l10, type_sphere__point__Point l11, slice_uint8_t l12, slice_uint8_t l13)
+{
+    if (l1.tag == 0)
+        feed__judge_all_either((type_sphere__point__Grid){.tag = 0}, l2, l3, l4, l5, l6, l7, l8, l9, l10, l11, l12, l13);
+    else
+        feed__judge_all_either((type_sphere__point__Grid){.tag = 1}, l2, l3, l4, l5, l6, l7, l8, l9, l10, l11, l12, l13);
 }
 
 static APART void feed__judge_by_index(type_sphere__point__Grid l1, slice_uint32_t l2, slice_uint32_t l3, type_sphere__point__Point l4, type_sphere__point__Point l5, slice_uint8_t l6, slice_uint8_t l7)
@@ -6273,7 +6308,7 @@ static APART void feed__judge_by_index(type_sphere__point__Grid l1, slice_uint32
     return;
 }
 
-static inline type_cones__build__Index cones__build__no_index(void)
+static INLINE type_cones__build__Index cones__build__no_index(void)
 {
     type_cones__build__Index l0;
     type_sphere__point__Point l1;
@@ -6284,7 +6319,7 @@ static inline type_cones__build__Index cones__build__no_index(void)
     return l0;
 }
 
-static inline void feed__judge_each(type_sphere__point__Grid l1, slice_uint32_t l2, slice_uint32_t l3, type_sphere__point__Point l4, type_sphere__point__Point l5, slice_uint8_t l6, slice_uint8_t l7)
+static INLINE void feed__judge_each(type_sphere__point__Grid l1, slice_uint32_t l2, slice_uint32_t l3, type_sphere__point__Point l4, type_sphere__point__Point l5, slice_uint8_t l6, slice_uint8_t l7)
 {
     uint64_t l8;
     array_uint16_t_1 l9;
@@ -6357,7 +6392,7 @@ static inline void feed__judge_each(type_sphere__point__Grid l1, slice_uint32_t 
     return;
 }
 
-static inline type_answer__Answer zone__feeds__feed_in(slice_uint8_t l1, slice_uint8_t l2, slice_uint8_t l3, slice_uint32_t l4, slice_uint32_t l5)
+static type_answer__Answer zone__feeds__feed_in(slice_uint8_t l1, slice_uint8_t l2, slice_uint8_t l3, slice_uint32_t l4, slice_uint32_t l5)
 {
     type_answer__Answer l0;
     uint32_t l6;
@@ -6473,7 +6508,7 @@ static APART type_answer__Answer zone__feeds__feed(slice_uint8_t l1, slice_uint8
     return l0;
 }
 
-static inline uint32_t spargolutta__spg_feed_number(slice_uint8_t l1, slice_uint8_t l2, slice_uint8_t l3)
+static INLINE uint32_t spargolutta__spg_feed_number(slice_uint8_t l1, slice_uint8_t l2, slice_uint8_t l3)
 {
     uint32_t l0;
     type_answer__Answer l4;
@@ -6507,7 +6542,7 @@ static APART type_sheet__open__Opened sheet__read__opened(slice_uint8_t l1)
     return l0;
 }
 
-static inline type_answer__Check sheet__read__sheet_check(slice_uint8_t l1)
+static INLINE type_answer__Check sheet__read__sheet_check(slice_uint8_t l1)
 {
     type_answer__Check l0;
     type_sheet__open__Opened l2;
@@ -6516,7 +6551,7 @@ static inline type_answer__Check sheet__read__sheet_check(slice_uint8_t l1)
     return l0;
 }
 
-static inline type_answer__Check zone__feeds__feed_check(slice_uint8_t l1, slice_uint8_t l2, uint64_t l3)
+static INLINE type_answer__Check zone__feeds__feed_check(slice_uint8_t l1, slice_uint8_t l2, uint64_t l3)
 {
     type_answer__Check l0;
     uint32_t l4;
@@ -6539,7 +6574,7 @@ static inline type_answer__Check zone__feeds__feed_check(slice_uint8_t l1, slice
     return l0;
 }
 
-static inline type_answer__Answer zone__feeds__feed_answer(slice_uint8_t l1, slice_uint8_t l2, uint64_t l3)
+static INLINE type_answer__Answer zone__feeds__feed_answer(slice_uint8_t l1, slice_uint8_t l2, uint64_t l3)
 {
     type_answer__Answer l0;
     uint32_t l4;
@@ -6563,7 +6598,7 @@ static inline type_answer__Answer zone__feeds__feed_answer(slice_uint8_t l1, sli
     return l0;
 }
 
-static inline uint64_t spargolutta__spg_feed_place(slice_uint8_t l1, slice_uint8_t l2, uint64_t l3)
+static INLINE uint64_t spargolutta__spg_feed_place(slice_uint8_t l1, slice_uint8_t l2, uint64_t l3)
 {
     uint64_t l0;
     type_answer__Answer l4;
@@ -6572,7 +6607,7 @@ static inline uint64_t spargolutta__spg_feed_place(slice_uint8_t l1, slice_uint8
     return l0;
 }
 
-static inline uint32_t spargolutta__spg_feed_count(slice_uint8_t l1, slice_uint8_t l2, uint64_t l3)
+static INLINE uint32_t spargolutta__spg_feed_count(slice_uint8_t l1, slice_uint8_t l2, uint64_t l3)
 {
     uint32_t l0;
     type_answer__Answer l4;
@@ -6581,7 +6616,7 @@ static inline uint32_t spargolutta__spg_feed_count(slice_uint8_t l1, slice_uint8
     return l0;
 }
 
-static inline type_sphere__point__Point zone__choose__candidate_at(slice_uint8_t l1, uint64_t l2)
+static INLINE type_sphere__point__Point zone__choose__candidate_at(slice_uint8_t l1, uint64_t l2)
 {
     type_sphere__point__Point l0;
     uint64_t l3;
@@ -6590,7 +6625,7 @@ static inline type_sphere__point__Point zone__choose__candidate_at(slice_uint8_t
     return l0;
 }
 
-static inline type_answer__Answer zone__choose__earliest(type_sphere__point__Grid l1, slice_uint32_t l2, slice_uint32_t l3, type_sphere__point__Point l4, slice_uint8_t l5)
+static INLINE type_answer__Answer zone__choose__earliest_either(type_sphere__point__Grid l1, slice_uint32_t l2, slice_uint32_t l3, type_sphere__point__Point l4, slice_uint8_t l5)
 {
     type_answer__Answer l0;
     uint64_t l6;
@@ -6619,6 +6654,11 @@ static inline type_answer__Answer zone__choose__earliest(type_sphere__point__Gri
 exit0:;
     l0 = (type_answer__Answer){.tag = 4, .s1 = UINT32_C(19), .s0 = UINT64_C(0)};
     return l0;
+}
+
+static INLINE type_answer__Answer zone__choose__earliest(type_sphere__point__Grid l1, slice_uint32_t l2, slice_uint32_t l3, type_sphere__point__Point l4, slice_uint8_t l5)
+{
+    return l1.tag == 0 ? zone__choose__earliest_either((type_sphere__point__Grid){.tag = 0}, l2, l3, l4, l5) : zone__choose__earliest_either((type_sphere__point__Grid){.tag = 1}, l2, l3, l4, l5);
 }
 
 static APART type_answer__Answer zone__choose__choose(slice_uint8_t l1, slice_uint8_t l2)
@@ -6682,7 +6722,7 @@ static APART type_answer__Answer zone__choose__choose(slice_uint8_t l1, slice_ui
     return l0;
 }
 
-static inline uint32_t spargolutta__spg_choose_number(slice_uint8_t l1, slice_uint8_t l2)
+static INLINE uint32_t spargolutta__spg_choose_number(slice_uint8_t l1, slice_uint8_t l2)
 {
     uint32_t l0;
     type_answer__Answer l3;
@@ -6691,7 +6731,7 @@ static inline uint32_t spargolutta__spg_choose_number(slice_uint8_t l1, slice_ui
     return l0;
 }
 
-static inline uint64_t spargolutta__spg_choose_place(slice_uint8_t l1, slice_uint8_t l2)
+static INLINE uint64_t spargolutta__spg_choose_place(slice_uint8_t l1, slice_uint8_t l2)
 {
     uint64_t l0;
     type_answer__Answer l3;
@@ -6700,7 +6740,7 @@ static inline uint64_t spargolutta__spg_choose_place(slice_uint8_t l1, slice_uin
     return l0;
 }
 
-static inline type_answer__Check polygon__grids__grid_check(slice_uint32_t l1, bool l2)
+static INLINE type_answer__Check polygon__grids__grid_check(slice_uint32_t l1, bool l2)
 {
     type_answer__Check l0;
     uint32_t l3;
@@ -6724,7 +6764,7 @@ static inline type_answer__Check polygon__grids__grid_check(slice_uint32_t l1, b
     return l0;
 }
 
-static inline type_sphere__point__Grid basin__profile__grid_numbered(uint32_t l1)
+static INLINE type_sphere__point__Grid basin__profile__grid_numbered(uint32_t l1)
 {
     type_sphere__point__Grid l0;
     bool l2;
@@ -6737,7 +6777,7 @@ static inline type_sphere__point__Grid basin__profile__grid_numbered(uint32_t l1
     return l0;
 }
 
-static inline type_answer__Check basin__profile__basin_check(slice_uint32_t l1, uint32_t l2)
+static INLINE type_answer__Check basin__profile__basin_check(slice_uint32_t l1, uint32_t l2)
 {
     type_answer__Check l0;
     uint32_t l3;
@@ -6785,7 +6825,7 @@ static inline type_answer__Check basin__profile__basin_check(slice_uint32_t l1, 
     return l0;
 }
 
-static inline type_basin__pairs__Near basin__pairs__next_near(slice_uint32_t l1, type_sphere__plane__Plane l2, uint64_t l3, uint64_t l4, uint64_t l5, uint64_t l6)
+static INLINE type_basin__pairs__Near basin__pairs__next_near(slice_uint32_t l1, type_sphere__plane__Plane l2, uint64_t l3, uint64_t l4, uint64_t l5, uint64_t l6)
 {
     type_basin__pairs__Near l0;
     uint64_t l7;
@@ -6820,7 +6860,7 @@ exit0:;
     return l0;
 }
 
-static inline bool basin__shared__shares_beyond(type_sphere__point__Point l1, type_sphere__point__Point l2, type_sphere__point__Point l3, uint64_t l4)
+static INLINE bool basin__shared__shares_beyond(type_sphere__point__Point l1, type_sphere__point__Point l2, type_sphere__point__Point l3, uint64_t l4)
 {
     bool l0;
     bool l5;
@@ -6833,7 +6873,7 @@ static inline bool basin__shared__shares_beyond(type_sphere__point__Point l1, ty
     return l0;
 }
 
-static inline bool basin__pairs__closes(uint64_t l1, uint64_t l2, uint64_t l3)
+static INLINE bool basin__pairs__closes(uint64_t l1, uint64_t l2, uint64_t l3)
 {
     bool l0;
     bool l4;
@@ -6848,7 +6888,7 @@ static inline bool basin__pairs__closes(uint64_t l1, uint64_t l2, uint64_t l3)
     return l0;
 }
 
-static inline bool basin__shared__holds_end(type_sphere__point__Point l1, type_sphere__point__Point l2, type_sphere__point__Point l3, type_sphere__point__Point l4, uint64_t l5, uint64_t l6)
+static INLINE bool basin__shared__holds_end(type_sphere__point__Point l1, type_sphere__point__Point l2, type_sphere__point__Point l3, type_sphere__point__Point l4, uint64_t l5, uint64_t l6)
 {
     bool l0;
     bool l7;
@@ -6861,7 +6901,7 @@ static inline bool basin__shared__holds_end(type_sphere__point__Point l1, type_s
     return l0;
 }
 
-static inline bool basin__shared__opposed(uint64_t l1, uint64_t l2)
+static INLINE bool basin__shared__opposed(uint64_t l1, uint64_t l2)
 {
     bool l0;
     bool l3;
@@ -6879,7 +6919,7 @@ static inline bool basin__shared__opposed(uint64_t l1, uint64_t l2)
     return l0;
 }
 
-static inline bool basin__shared__meets_by(uint64_t l1, uint64_t l2, uint64_t l3, uint64_t l4)
+static INLINE bool basin__shared__meets_by(uint64_t l1, uint64_t l2, uint64_t l3, uint64_t l4)
 {
     bool l0;
     bool l5;
@@ -6896,7 +6936,7 @@ static inline bool basin__shared__meets_by(uint64_t l1, uint64_t l2, uint64_t l3
     return l0;
 }
 
-static inline bool basin__shared__shares(type_sphere__point__Grid l1, type_basin__shared__Edge l2, type_basin__shared__Edge l3, uint64_t l4, uint64_t l5)
+static bool basin__shared__shares(type_sphere__point__Grid l1, type_basin__shared__Edge l2, type_basin__shared__Edge l3, uint64_t l4, uint64_t l5)
 {
     bool l0;
     type_sphere__plane__Plane l6;
@@ -6921,7 +6961,7 @@ static inline bool basin__shared__shares(type_sphere__point__Grid l1, type_basin
     return l0;
 }
 
-static inline bool basin__pairs__offends(type_sphere__point__Grid l1, slice_uint32_t l2, uint64_t l3, uint64_t l4, uint64_t l5, uint64_t l6)
+static bool basin__pairs__offends(type_sphere__point__Grid l1, slice_uint32_t l2, uint64_t l3, uint64_t l4, uint64_t l5, uint64_t l6)
 {
     bool l0;
     type_sphere__point__Point l7;
@@ -6957,7 +6997,7 @@ static inline bool basin__pairs__offends(type_sphere__point__Grid l1, slice_uint
     return l0;
 }
 
-static inline type_basin__pairs__FirstPair basin__pairs__first_pair(type_sphere__point__Grid l1, slice_uint32_t l2)
+static INLINE type_basin__pairs__FirstPair basin__pairs__first_pair_either(type_sphere__point__Grid l1, slice_uint32_t l2)
 {
     type_basin__pairs__FirstPair l0;
     uint64_t l3;
@@ -7019,7 +7059,12 @@ exit0:;
     return l0;
 }
 
-static inline type_basin__profile__Basin basin__profile__check_basin(slice_uint32_t l1, uint32_t l2)
+static type_basin__pairs__FirstPair basin__pairs__first_pair(type_sphere__point__Grid l1, slice_uint32_t l2)
+{
+    return l1.tag == 0 ? basin__pairs__first_pair_either((type_sphere__point__Grid){.tag = 0}, l2) : basin__pairs__first_pair_either((type_sphere__point__Grid){.tag = 1}, l2);
+}
+
+static INLINE type_basin__profile__Basin basin__profile__check_basin(slice_uint32_t l1, uint32_t l2)
 {
     type_basin__profile__Basin l0;
     uint32_t l3;
@@ -7063,7 +7108,7 @@ static inline type_basin__profile__Basin basin__profile__check_basin(slice_uint3
     return l0;
 }
 
-static inline type_basin__profile__Basin spargolutta__outline__basin_in(slice_uint8_t l1, uint32_t l2, slice_uint32_t l3)
+static INLINE type_basin__profile__Basin spargolutta__outline__basin_in(slice_uint8_t l1, uint32_t l2, slice_uint32_t l3)
 {
     type_basin__profile__Basin l0;
     uint64_t l4;
@@ -7115,7 +7160,7 @@ static APART type_basin__profile__Basin spargolutta__outline__basin_of(slice_uin
     return l0;
 }
 
-static inline uint32_t basin__profile__basin_number(type_basin__profile__Basin l1)
+static INLINE uint32_t basin__profile__basin_number(type_basin__profile__Basin l1)
 {
     uint32_t l0;
     uint32_t l2;
@@ -7139,7 +7184,7 @@ static inline uint32_t basin__profile__basin_number(type_basin__profile__Basin l
     return l0;
 }
 
-static inline uint32_t spargolutta__outline__spg_basin_number(slice_uint8_t l1, uint32_t l2)
+static INLINE uint32_t spargolutta__outline__spg_basin_number(slice_uint8_t l1, uint32_t l2)
 {
     uint32_t l0;
     type_basin__profile__Basin l3;
@@ -7148,7 +7193,7 @@ static inline uint32_t spargolutta__outline__spg_basin_number(slice_uint8_t l1, 
     return l0;
 }
 
-static inline uint64_t basin__profile__basin_place(type_basin__profile__Basin l1)
+static INLINE uint64_t basin__profile__basin_place(type_basin__profile__Basin l1)
 {
     uint64_t l0;
     uint64_t l2;
@@ -7174,7 +7219,7 @@ static inline uint64_t basin__profile__basin_place(type_basin__profile__Basin l1
     return l0;
 }
 
-static inline uint64_t spargolutta__outline__spg_basin_place(slice_uint8_t l1, uint32_t l2)
+static INLINE uint64_t spargolutta__outline__spg_basin_place(slice_uint8_t l1, uint32_t l2)
 {
     uint64_t l0;
     type_basin__profile__Basin l3;
@@ -7183,7 +7228,7 @@ static inline uint64_t spargolutta__outline__spg_basin_place(slice_uint8_t l1, u
     return l0;
 }
 
-static inline uint32_t basin__profile__basin_count(type_basin__profile__Basin l1)
+static INLINE uint32_t basin__profile__basin_count(type_basin__profile__Basin l1)
 {
     uint32_t l0;
     uint32_t l2;
@@ -7207,7 +7252,7 @@ static inline uint32_t basin__profile__basin_count(type_basin__profile__Basin l1
     return l0;
 }
 
-static inline uint32_t spargolutta__outline__spg_basin_count(slice_uint8_t l1, uint32_t l2)
+static INLINE uint32_t spargolutta__outline__spg_basin_count(slice_uint8_t l1, uint32_t l2)
 {
     uint32_t l0;
     type_basin__profile__Basin l3;
@@ -7216,7 +7261,7 @@ static inline uint32_t spargolutta__outline__spg_basin_count(slice_uint8_t l1, u
     return l0;
 }
 
-static inline type_book__step__Step book__step__step_at(slice_uint8_t l1, uint64_t l2)
+static INLINE type_book__step__Step book__step__step_at(slice_uint8_t l1, uint64_t l2)
 {
     type_book__step__Step l0;
     slice_uint8_t l3;
@@ -7257,7 +7302,7 @@ static inline type_book__step__Step book__step__step_at(slice_uint8_t l1, uint64
     return l0;
 }
 
-static inline uint32_t book__which__grid_number(type_sphere__point__Grid l1)
+static INLINE uint32_t book__which__grid_number(type_sphere__point__Grid l1)
 {
     uint32_t l0;
     uint32_t l2;
@@ -7275,7 +7320,7 @@ static inline uint32_t book__which__grid_number(type_sphere__point__Grid l1)
     return l0;
 }
 
-static inline type_answer__Answer book__which__zone_answer(slice_uint8_t l1, uint32_t l2, type_sphere__point__Point l3)
+static INLINE type_answer__Answer book__which__zone_answer(slice_uint8_t l1, uint32_t l2, type_sphere__point__Point l3)
 {
     type_answer__Answer l0;
     uint32_t l4;
@@ -7292,7 +7337,7 @@ static inline type_answer__Answer book__which__zone_answer(slice_uint8_t l1, uin
     return l0;
 }
 
-static inline type_answer__Answer book__which__zone_at(slice_uint8_t l1, uint64_t l2, uint64_t l3, uint32_t l4, type_sphere__point__Point l5)
+static INLINE type_answer__Answer book__which__zone_at(slice_uint8_t l1, uint64_t l2, uint64_t l3, uint32_t l4, type_sphere__point__Point l5)
 {
     type_answer__Answer l0;
     uint64_t l6;
@@ -7309,7 +7354,7 @@ static inline type_answer__Answer book__which__zone_at(slice_uint8_t l1, uint64_
     return l0;
 }
 
-static inline uint64_t book__zones__set_bit(uint64_t l1, uint64_t l2)
+static INLINE uint64_t book__zones__set_bit(uint64_t l1, uint64_t l2)
 {
     uint64_t l0;
     uint64_t l3;
@@ -7318,7 +7363,7 @@ static inline uint64_t book__zones__set_bit(uint64_t l1, uint64_t l2)
     return l0;
 }
 
-static inline type_book__sets__Sets book__zones__with_zone(type_book__sets__Sets l1, uint64_t l2, type_answer__Answer l3)
+static INLINE type_book__sets__Sets book__zones__with_zone(type_book__sets__Sets l1, uint64_t l2, type_answer__Answer l3)
 {
     type_book__sets__Sets l0;
     uint64_t l4;
@@ -7360,7 +7405,7 @@ static inline type_book__sets__Sets book__zones__with_zone(type_book__sets__Sets
     return l0;
 }
 
-static inline type_book__sets__Which book__zones__broken(uint32_t l1, uint64_t l2)
+static INLINE type_book__sets__Which book__zones__broken(uint32_t l1, uint64_t l2)
 {
     type_book__sets__Which l0;
     type_book__sets__Sets l3;
@@ -7369,7 +7414,7 @@ static inline type_book__sets__Which book__zones__broken(uint32_t l1, uint64_t l
     return l0;
 }
 
-static inline type_book__sets__Which book__zones__found(type_book__sets__Sets l1)
+static INLINE type_book__sets__Which book__zones__found(type_book__sets__Sets l1)
 {
     type_book__sets__Which l0;
     uint32_t l2;
@@ -7382,7 +7427,7 @@ static inline type_book__sets__Which book__zones__found(type_book__sets__Sets l1
     return l0;
 }
 
-static inline type_book__sets__Which book__which__which(slice_uint8_t l1, uint32_t l2, type_sphere__point__Point l3)
+static INLINE type_book__sets__Which book__which__which(slice_uint8_t l1, uint32_t l2, type_sphere__point__Point l3)
 {
     type_book__sets__Which l0;
     uint64_t l4;
@@ -7440,7 +7485,7 @@ exit0:;
     return l0;
 }
 
-static inline type_book__sets__Which spargolutta__books__which_zones(slice_uint8_t l1, uint32_t l2, uint32_t l3, uint32_t l4, uint32_t l5)
+static INLINE type_book__sets__Which spargolutta__books__which_zones(slice_uint8_t l1, uint32_t l2, uint32_t l3, uint32_t l4, uint32_t l5)
 {
     type_book__sets__Which l0;
     type_sphere__point__Point l6;
@@ -7449,7 +7494,7 @@ static inline type_book__sets__Which spargolutta__books__which_zones(slice_uint8
     return l0;
 }
 
-static inline uint32_t spargolutta__books__spg_book_number(slice_uint8_t l1, uint32_t l2, uint32_t l3, uint32_t l4, uint32_t l5)
+static INLINE uint32_t spargolutta__books__spg_book_number(slice_uint8_t l1, uint32_t l2, uint32_t l3, uint32_t l4, uint32_t l5)
 {
     uint32_t l0;
     type_book__sets__Which l6;
@@ -7458,7 +7503,7 @@ static inline uint32_t spargolutta__books__spg_book_number(slice_uint8_t l1, uin
     return l0;
 }
 
-static inline uint64_t spargolutta__books__spg_book_place(slice_uint8_t l1, uint32_t l2, uint32_t l3, uint32_t l4, uint32_t l5)
+static INLINE uint64_t spargolutta__books__spg_book_place(slice_uint8_t l1, uint32_t l2, uint32_t l3, uint32_t l4, uint32_t l5)
 {
     uint64_t l0;
     type_book__sets__Which l6;
@@ -7467,7 +7512,7 @@ static inline uint64_t spargolutta__books__spg_book_place(slice_uint8_t l1, uint
     return l0;
 }
 
-static inline uint32_t spargolutta__books__spg_book_count(slice_uint8_t l1, uint32_t l2, uint32_t l3, uint32_t l4, uint32_t l5)
+static INLINE uint32_t spargolutta__books__spg_book_count(slice_uint8_t l1, uint32_t l2, uint32_t l3, uint32_t l4, uint32_t l5)
 {
     uint32_t l0;
     type_book__sets__Which l6;
@@ -7476,7 +7521,7 @@ static inline uint32_t spargolutta__books__spg_book_count(slice_uint8_t l1, uint
     return l0;
 }
 
-static inline uint64_t spargolutta__books__spg_book_inside(slice_uint8_t l1, uint32_t l2, uint32_t l3, uint32_t l4, uint32_t l5)
+static INLINE uint64_t spargolutta__books__spg_book_inside(slice_uint8_t l1, uint32_t l2, uint32_t l3, uint32_t l4, uint32_t l5)
 {
     uint64_t l0;
     type_book__sets__Which l6;
@@ -7485,7 +7530,7 @@ static inline uint64_t spargolutta__books__spg_book_inside(slice_uint8_t l1, uin
     return l0;
 }
 
-static inline uint64_t spargolutta__books__spg_book_boundary(slice_uint8_t l1, uint32_t l2, uint32_t l3, uint32_t l4, uint32_t l5)
+static INLINE uint64_t spargolutta__books__spg_book_boundary(slice_uint8_t l1, uint32_t l2, uint32_t l3, uint32_t l4, uint32_t l5)
 {
     uint64_t l0;
     type_book__sets__Which l6;
@@ -7494,7 +7539,7 @@ static inline uint64_t spargolutta__books__spg_book_boundary(slice_uint8_t l1, u
     return l0;
 }
 
-static inline uint64_t spargolutta__books__spg_book_refused(slice_uint8_t l1, uint32_t l2, uint32_t l3, uint32_t l4, uint32_t l5)
+static INLINE uint64_t spargolutta__books__spg_book_refused(slice_uint8_t l1, uint32_t l2, uint32_t l3, uint32_t l4, uint32_t l5)
 {
     uint64_t l0;
     type_book__sets__Which l6;
@@ -7503,7 +7548,7 @@ static inline uint64_t spargolutta__books__spg_book_refused(slice_uint8_t l1, ui
     return l0;
 }
 
-static inline type_book__step__Step book__reader__look(type_book__reader__Reader l1)
+static INLINE type_book__step__Step book__reader__look(type_book__reader__Reader l1)
 {
     type_book__step__Step l0;
     slice_uint8_t l2;
@@ -7514,7 +7559,7 @@ static inline type_book__step__Step book__reader__look(type_book__reader__Reader
     return l0;
 }
 
-static inline type_book__step__Step book__reader__step_from(slice_uint8_t l1, uint64_t l2)
+static INLINE type_book__step__Step book__reader__step_from(slice_uint8_t l1, uint64_t l2)
 {
     type_book__step__Step l0;
     type_book__reader__Reader l3;
@@ -7523,7 +7568,7 @@ static inline type_book__step__Step book__reader__step_from(slice_uint8_t l1, ui
     return l0;
 }
 
-static inline uint32_t book__step__number(type_book__step__Step l1)
+static INLINE uint32_t book__step__number(type_book__step__Step l1)
 {
     uint32_t l0;
     uint32_t l2;
@@ -7547,7 +7592,7 @@ static inline uint32_t book__step__number(type_book__step__Step l1)
     return l0;
 }
 
-static inline uint32_t spargolutta__books__spg_book_next_number(slice_uint8_t l1, uint64_t l2)
+static INLINE uint32_t spargolutta__books__spg_book_next_number(slice_uint8_t l1, uint64_t l2)
 {
     uint32_t l0;
     type_book__step__Step l3;
@@ -7556,7 +7601,7 @@ static inline uint32_t spargolutta__books__spg_book_next_number(slice_uint8_t l1
     return l0;
 }
 
-static inline uint64_t book__step__place(type_book__step__Step l1)
+static INLINE uint64_t book__step__place(type_book__step__Step l1)
 {
     uint64_t l0;
     uint64_t l2;
@@ -7582,7 +7627,7 @@ static inline uint64_t book__step__place(type_book__step__Step l1)
     return l0;
 }
 
-static inline uint64_t spargolutta__books__spg_book_next_place(slice_uint8_t l1, uint64_t l2)
+static INLINE uint64_t spargolutta__books__spg_book_next_place(slice_uint8_t l1, uint64_t l2)
 {
     uint64_t l0;
     type_book__step__Step l3;
@@ -7591,7 +7636,7 @@ static inline uint64_t spargolutta__books__spg_book_next_place(slice_uint8_t l1,
     return l0;
 }
 
-static inline uint64_t book__step__count(type_book__step__Step l1)
+static INLINE uint64_t book__step__count(type_book__step__Step l1)
 {
     uint64_t l0;
     uint64_t l2;
@@ -7615,7 +7660,7 @@ static inline uint64_t book__step__count(type_book__step__Step l1)
     return l0;
 }
 
-static inline uint64_t spargolutta__books__spg_book_next_count(slice_uint8_t l1, uint64_t l2)
+static INLINE uint64_t spargolutta__books__spg_book_next_count(slice_uint8_t l1, uint64_t l2)
 {
     uint64_t l0;
     type_book__step__Step l3;
@@ -7624,7 +7669,7 @@ static inline uint64_t spargolutta__books__spg_book_next_count(slice_uint8_t l1,
     return l0;
 }
 
-static inline type_sheet__read__Sheet sheet__read__accepted(slice_uint8_t l1, type_sheet__open__Opened l2)
+static INLINE type_sheet__read__Sheet sheet__read__accepted(slice_uint8_t l1, type_sheet__open__Opened l2)
 {
     type_sheet__read__Sheet l0;
     type_sphere__point__Grid l3;
@@ -7655,7 +7700,7 @@ static inline type_sheet__read__Sheet sheet__read__accepted(slice_uint8_t l1, ty
     return l0;
 }
 
-static inline type_sheet__read__Sheet sheet__read__refused(uint32_t l1, uint64_t l2)
+static INLINE type_sheet__read__Sheet sheet__read__refused(uint32_t l1, uint64_t l2)
 {
     type_sheet__read__Sheet l0;
     type_answer__Answer l3;
@@ -7670,7 +7715,7 @@ static inline type_sheet__read__Sheet sheet__read__refused(uint32_t l1, uint64_t
     return l0;
 }
 
-static inline type_sheet__read__Sheet sheet__read__read(slice_uint8_t l1)
+static INLINE type_sheet__read__Sheet sheet__read__read(slice_uint8_t l1)
 {
     type_sheet__read__Sheet l0;
     type_sheet__open__Opened l2;
@@ -7696,7 +7741,7 @@ static inline type_sheet__read__Sheet sheet__read__read(slice_uint8_t l1)
     return l0;
 }
 
-static inline type_compare__Comparison compare__refused(uint32_t l1, uint64_t l2)
+static INLINE type_compare__Comparison compare__refused(uint32_t l1, uint64_t l2)
 {
     type_compare__Comparison l0;
     array_uint8_t_7 l3;
@@ -7706,7 +7751,7 @@ static inline type_compare__Comparison compare__refused(uint32_t l1, uint64_t l2
     return l0;
 }
 
-static inline slice_uint8_t compare__differences__ring_in(slice_uint8_t l1, uint64_t l2)
+static INLINE slice_uint8_t compare__differences__ring_in(slice_uint8_t l1, uint64_t l2)
 {
     slice_uint8_t l0;
     uint64_t l3;
@@ -7726,7 +7771,7 @@ static inline slice_uint8_t compare__differences__ring_in(slice_uint8_t l1, uint
     return l0;
 }
 
-static inline uint64_t compare__ring__least(uint64_t l1, uint64_t l2)
+static INLINE uint64_t compare__ring__least(uint64_t l1, uint64_t l2)
 {
     uint64_t l0;
     bool l3;
@@ -7739,7 +7784,7 @@ static inline uint64_t compare__ring__least(uint64_t l1, uint64_t l2)
     return l0;
 }
 
-static inline type_sphere__point__Point compare__ring__vertex_in(slice_uint8_t l1, uint64_t l2)
+static INLINE type_sphere__point__Point compare__ring__vertex_in(slice_uint8_t l1, uint64_t l2)
 {
     type_sphere__point__Point l0;
     uint64_t l3;
@@ -7748,7 +7793,7 @@ static inline type_sphere__point__Point compare__ring__vertex_in(slice_uint8_t l
     return l0;
 }
 
-static inline bool compare__ring__differs(slice_uint8_t l1, slice_uint8_t l2, uint64_t l3, uint64_t l4)
+static bool compare__ring__differs(slice_uint8_t l1, slice_uint8_t l2, uint64_t l3, uint64_t l4)
 {
     bool l0;
     bool l5;
@@ -7761,7 +7806,7 @@ static inline bool compare__ring__differs(slice_uint8_t l1, slice_uint8_t l2, ui
     return l0;
 }
 
-static inline uint64_t compare__ring__first_difference(slice_uint8_t l1, slice_uint8_t l2)
+static INLINE uint64_t compare__ring__first_difference(slice_uint8_t l1, slice_uint8_t l2)
 {
     uint64_t l0;
     uint64_t l3;
@@ -7796,7 +7841,7 @@ exit0:;
     return l0;
 }
 
-static inline uint64_t compare__ring__round(uint64_t l1, uint64_t l2)
+static INLINE uint64_t compare__ring__round(uint64_t l1, uint64_t l2)
 {
     uint64_t l0;
     bool l3;
@@ -7809,7 +7854,7 @@ static inline uint64_t compare__ring__round(uint64_t l1, uint64_t l2)
     return l0;
 }
 
-static inline uint64_t compare__ring__met_at(bool l1, uint64_t l2, uint64_t l3, uint64_t l4)
+static INLINE uint64_t compare__ring__met_at(bool l1, uint64_t l2, uint64_t l3, uint64_t l4)
 {
     uint64_t l0;
     bool l5;
@@ -7828,7 +7873,7 @@ static inline uint64_t compare__ring__met_at(bool l1, uint64_t l2, uint64_t l3, 
     return l0;
 }
 
-static inline bool compare__ring__meets(slice_uint8_t l1, slice_uint8_t l2, bool l3, uint64_t l4)
+static INLINE bool compare__ring__meets(slice_uint8_t l1, slice_uint8_t l2, bool l3, uint64_t l4)
 {
     bool l0;
     uint64_t l5;
@@ -7859,7 +7904,7 @@ exit0:;
     return l0;
 }
 
-static inline type_answer__Found compare__ring__first_meeting(slice_uint8_t l1, slice_uint8_t l2, bool l3)
+static INLINE type_answer__Found compare__ring__first_meeting(slice_uint8_t l1, slice_uint8_t l2, bool l3)
 {
     type_answer__Found l0;
     uint64_t l4;
@@ -7888,7 +7933,7 @@ exit0:;
     return l0;
 }
 
-static inline type_compare__ring__Placed compare__ring__place_ring(slice_uint8_t l1, slice_uint8_t l2)
+static INLINE type_compare__ring__Placed compare__ring__place_ring(slice_uint8_t l1, slice_uint8_t l2)
 {
     type_compare__ring__Placed l0;
     type_answer__Found l3;
@@ -7940,7 +7985,7 @@ static inline type_compare__ring__Placed compare__ring__place_ring(slice_uint8_t
     return l0;
 }
 
-static inline type_compare__differences__Differences compare__differences__none(void)
+static INLINE type_compare__differences__Differences compare__differences__none(void)
 {
     type_compare__differences__Differences l0;
     array_uint8_t_7 l1;
@@ -7950,7 +7995,7 @@ static inline type_compare__differences__Differences compare__differences__none(
     return l0;
 }
 
-static inline type_compare__differences__Differences compare__differences__with_field(type_compare__differences__Differences l1, uint8_t l2, bool l3)
+static INLINE type_compare__differences__Differences compare__differences__with_field(type_compare__differences__Differences l1, uint8_t l2, bool l3)
 {
     type_compare__differences__Differences l0;
     array_uint8_t_7 l4;
@@ -7976,7 +8021,7 @@ static inline type_compare__differences__Differences compare__differences__with_
     return l0;
 }
 
-static inline slice_uint8_t compare__differences__name_in(slice_uint8_t l1, uint64_t l2)
+static INLINE slice_uint8_t compare__differences__name_in(slice_uint8_t l1, uint64_t l2)
 {
     slice_uint8_t l0;
     uint64_t l3;
@@ -7993,7 +8038,7 @@ static inline slice_uint8_t compare__differences__name_in(slice_uint8_t l1, uint
     return l0;
 }
 
-static inline bool compare__differences__is_same_row(slice_uint8_t l1, slice_uint8_t l2)
+static INLINE bool compare__differences__is_same_row(slice_uint8_t l1, slice_uint8_t l2)
 {
     bool l0;
     uint64_t l3;
@@ -8037,7 +8082,7 @@ exit0:;
     return l0;
 }
 
-static inline type_compare__differences__Differences compare__differences__head_differences(slice_uint8_t l1, slice_uint8_t l2, type_sheet__read__Sheet l3, type_sheet__read__Sheet l4)
+static INLINE type_compare__differences__Differences compare__differences__head_differences(slice_uint8_t l1, slice_uint8_t l2, type_sheet__read__Sheet l3, type_sheet__read__Sheet l4)
 {
     type_compare__differences__Differences l0;
     type_compare__differences__Differences l5;
@@ -8060,7 +8105,7 @@ static inline type_compare__differences__Differences compare__differences__head_
     return l0;
 }
 
-static inline uint32_t compare__ring__way(type_compare__ring__Placed l1)
+static INLINE uint32_t compare__ring__way(type_compare__ring__Placed l1)
 {
     uint32_t l0;
     uint32_t l2;
@@ -8082,7 +8127,7 @@ static inline uint32_t compare__ring__way(type_compare__ring__Placed l1)
     return l0;
 }
 
-static inline bool compare__differences__is_same_second(type_sphere__point__Point l1, type_sphere__point__Point l2)
+static INLINE bool compare__differences__is_same_second(type_sphere__point__Point l1, type_sphere__point__Point l2)
 {
     bool l0;
     bool l3;
@@ -8101,7 +8146,7 @@ static inline bool compare__differences__is_same_second(type_sphere__point__Poin
     return l0;
 }
 
-static inline type_compare__differences__Differences compare__differences__all_differences(slice_uint8_t l1, slice_uint8_t l2, type_sheet__read__Sheet l3, type_sheet__read__Sheet l4, type_compare__ring__Placed l5)
+static INLINE type_compare__differences__Differences compare__differences__all_differences(slice_uint8_t l1, slice_uint8_t l2, type_sheet__read__Sheet l3, type_sheet__read__Sheet l4, type_compare__ring__Placed l5)
 {
     type_compare__differences__Differences l0;
     type_compare__differences__Differences l6;
@@ -8134,7 +8179,7 @@ static inline type_compare__differences__Differences compare__differences__all_d
     return l0;
 }
 
-static inline uint64_t compare__ring__place(type_compare__ring__Placed l1)
+static INLINE uint64_t compare__ring__place(type_compare__ring__Placed l1)
 {
     uint64_t l0;
     uint64_t l2;
@@ -8162,7 +8207,7 @@ static inline uint64_t compare__ring__place(type_compare__ring__Placed l1)
     return l0;
 }
 
-static inline type_compare__Comparison compare__compare_read(slice_uint8_t l1, slice_uint8_t l2, type_sheet__read__Sheet l3, type_sheet__read__Sheet l4)
+static type_compare__Comparison compare__compare_read(slice_uint8_t l1, slice_uint8_t l2, type_sheet__read__Sheet l3, type_sheet__read__Sheet l4)
 {
     type_compare__Comparison l0;
     type_compare__ring__Placed l5;
@@ -8185,7 +8230,7 @@ static inline type_compare__Comparison compare__compare_read(slice_uint8_t l1, s
     return l0;
 }
 
-static inline type_compare__Comparison compare__compare(slice_uint8_t l1, slice_uint8_t l2)
+static INLINE type_compare__Comparison compare__compare(slice_uint8_t l1, slice_uint8_t l2)
 {
     type_compare__Comparison l0;
     type_sheet__read__Sheet l3;
@@ -8219,7 +8264,7 @@ static inline type_compare__Comparison compare__compare(slice_uint8_t l1, slice_
     return l0;
 }
 
-static inline uint32_t spargolutta__comparison__spg_compare_number(slice_uint8_t l1, slice_uint8_t l2)
+static INLINE uint32_t spargolutta__comparison__spg_compare_number(slice_uint8_t l1, slice_uint8_t l2)
 {
     uint32_t l0;
     type_compare__Comparison l3;
@@ -8228,7 +8273,7 @@ static inline uint32_t spargolutta__comparison__spg_compare_number(slice_uint8_t
     return l0;
 }
 
-static inline uint64_t spargolutta__comparison__spg_compare_place(slice_uint8_t l1, slice_uint8_t l2)
+static INLINE uint64_t spargolutta__comparison__spg_compare_place(slice_uint8_t l1, slice_uint8_t l2)
 {
     uint64_t l0;
     type_compare__Comparison l3;
@@ -8237,7 +8282,7 @@ static inline uint64_t spargolutta__comparison__spg_compare_place(slice_uint8_t 
     return l0;
 }
 
-static inline uint32_t spargolutta__comparison__spg_compare_count(slice_uint8_t l1, slice_uint8_t l2)
+static INLINE uint32_t spargolutta__comparison__spg_compare_count(slice_uint8_t l1, slice_uint8_t l2)
 {
     uint32_t l0;
     type_compare__Comparison l3;
@@ -8246,7 +8291,7 @@ static inline uint32_t spargolutta__comparison__spg_compare_count(slice_uint8_t 
     return l0;
 }
 
-static inline uint32_t spargolutta__comparison__spg_compare_way(slice_uint8_t l1, slice_uint8_t l2)
+static INLINE uint32_t spargolutta__comparison__spg_compare_way(slice_uint8_t l1, slice_uint8_t l2)
 {
     uint32_t l0;
     type_compare__Comparison l3;
@@ -8255,14 +8300,14 @@ static inline uint32_t spargolutta__comparison__spg_compare_way(slice_uint8_t l1
     return l0;
 }
 
-static inline uint64_t spargolutta__comparison__byte(uint8_t l1)
+static INLINE uint64_t spargolutta__comparison__byte(uint8_t l1)
 {
     uint64_t l0;
     l0 = (uint64_t)l1;
     return l0;
 }
 
-static inline uint64_t spargolutta__comparison__packed(array_uint8_t_7 l1)
+static INLINE uint64_t spargolutta__comparison__packed(array_uint8_t_7 l1)
 {
     uint64_t l0;
     array_uint8_t_7 l2;
@@ -8304,9 +8349,9 @@ static inline uint64_t spargolutta__comparison__packed(array_uint8_t_7 l1)
     l15 = ((unsigned char *)(void *)l14 + (size_t)UINT64_C(6));
     l16 = (*(uint8_t *)(void *)l15);
     l13 = spargolutta__comparison__byte(l16);
-    l17 = (l13 * UINT64_C(256));
+    l17 = (l13 << 8);
     l18 = (l9 + l17);
-    l19 = (l18 * UINT64_C(256));
+    l19 = (l18 << 8);
     l3 = (l5 + l19);
     l20 = (unsigned char *)(void *)&l2;
     l21 = ((unsigned char *)(void *)l20 + (size_t)UINT64_C(2));
@@ -8316,9 +8361,9 @@ static inline uint64_t spargolutta__comparison__packed(array_uint8_t_7 l1)
     l23 = ((unsigned char *)(void *)l22 + (size_t)UINT64_C(3));
     l12 = (*(uint8_t *)(void *)l23);
     l19 = spargolutta__comparison__byte(l12);
-    l17 = (l3 * UINT64_C(256));
+    l17 = (l3 << 8);
     l13 = (l19 + l17);
-    l18 = (l13 * UINT64_C(256));
+    l18 = (l13 << 8);
     l4 = (l5 + l18);
     l24 = (unsigned char *)(void *)&l2;
     l25 = ((unsigned char *)(void *)l24 + (size_t)UINT64_C(0));
@@ -8328,14 +8373,14 @@ static inline uint64_t spargolutta__comparison__packed(array_uint8_t_7 l1)
     l27 = ((unsigned char *)(void *)l26 + (size_t)UINT64_C(1));
     l8 = (*(uint8_t *)(void *)l27);
     l13 = spargolutta__comparison__byte(l8);
-    l17 = (l4 * UINT64_C(256));
+    l17 = (l4 << 8);
     l19 = (l13 + l17);
-    l18 = (l19 * UINT64_C(256));
+    l18 = (l19 << 8);
     l0 = (l9 + l18);
     return l0;
 }
 
-static inline uint64_t spargolutta__comparison__spg_compare_fields(slice_uint8_t l1, slice_uint8_t l2)
+static INLINE uint64_t spargolutta__comparison__spg_compare_fields(slice_uint8_t l1, slice_uint8_t l2)
 {
     uint64_t l0;
     type_compare__Comparison l3;
@@ -8360,7 +8405,7 @@ static APART array_uint64_t_261 positions__grammar__ring_table(void)
     return l0;
 }
 
-static inline type_positions__ring__Ring positions__ring__none(void)
+static INLINE type_positions__ring__Ring positions__ring__none(void)
 {
     type_positions__ring__Ring l0;
     type_angles__point__Position l1;
@@ -8373,7 +8418,7 @@ static inline type_positions__ring__Ring positions__ring__none(void)
     return l0;
 }
 
-static inline type_geojson__scan__Reader geojson__scan__start(void)
+static INLINE type_geojson__scan__Reader geojson__scan__start(void)
 {
     type_geojson__scan__Reader l0;
     type_positions__number__Pending l1;
@@ -8384,7 +8429,7 @@ static inline type_geojson__scan__Reader geojson__scan__start(void)
     return l0;
 }
 
-static inline bool positions__grammar__is_ring(uint64_t l1)
+static INLINE bool positions__grammar__is_ring(uint64_t l1)
 {
     bool l0;
     bool l2;
@@ -8397,7 +8442,7 @@ static inline bool positions__grammar__is_ring(uint64_t l1)
     return l0;
 }
 
-static inline uint64_t positions__grammar__class_of(array_uint64_t_256 *l1, uint8_t l2)
+static INLINE uint64_t positions__grammar__class_of(array_uint64_t_256 *l1, uint8_t l2)
 {
     uint64_t l0;
     uint64_t l3;
@@ -8406,7 +8451,7 @@ static inline uint64_t positions__grammar__class_of(array_uint64_t_256 *l1, uint
     unsigned char *l6;
     uint64_t l7;
     l3 = (uint64_t)l2;
-    l4 = (l3 * UINT64_C(8));
+    l4 = (l3 << 3);
     l5 = (unsigned char *)(void *)&(*l1);
     l6 = ((unsigned char *)(void *)l5 + (size_t)l4);
     l7 = (*(uint64_t *)(void *)l6);
@@ -8414,7 +8459,7 @@ static inline uint64_t positions__grammar__class_of(array_uint64_t_256 *l1, uint
     return l0;
 }
 
-static inline uint64_t positions__grammar__row_at(array_uint64_t_261 *l1, uint64_t l2)
+static INLINE uint64_t positions__grammar__row_at(array_uint64_t_261 *l1, uint64_t l2)
 {
     uint64_t l0;
     uint64_t l3;
@@ -8423,7 +8468,7 @@ static inline uint64_t positions__grammar__row_at(array_uint64_t_261 *l1, uint64
     unsigned char *l6;
     uint64_t l7;
     l3 = l2;
-    l4 = (l3 * UINT64_C(8));
+    l4 = (l3 << 3);
     l5 = (unsigned char *)(void *)&(*l1);
     l6 = ((unsigned char *)(void *)l5 + (size_t)l4);
     l7 = (*(uint64_t *)(void *)l6);
@@ -8431,7 +8476,7 @@ static inline uint64_t positions__grammar__row_at(array_uint64_t_261 *l1, uint64
     return l0;
 }
 
-static inline type_positions__grammar__State positions__grammar__ring_next(array_uint64_t_261 *l1, type_positions__grammar__State l2, uint64_t l3)
+static INLINE type_positions__grammar__State positions__grammar__ring_next(array_uint64_t_261 *l1, type_positions__grammar__State l2, uint64_t l3)
 {
     type_positions__grammar__State l0;
     uint64_t l4;
@@ -8457,14 +8502,14 @@ static inline type_positions__grammar__State positions__grammar__ring_next(array
     return l0;
 }
 
-static inline uint64_t positions__grammar__wide(uint8_t l1)
+static INLINE uint64_t positions__grammar__wide(uint8_t l1)
 {
     uint64_t l0;
     l0 = (uint64_t)l1;
     return l0;
 }
 
-static inline uint64_t positions__grammar__word_at(uint64_t l1)
+static INLINE uint64_t positions__grammar__word_at(uint64_t l1)
 {
     uint64_t l0;
     array_uint64_t_76 l2;
@@ -8475,7 +8520,7 @@ static inline uint64_t positions__grammar__word_at(uint64_t l1)
     uint64_t l7;
     l2 = (array_uint64_t_76){.e[0] = UINT64_C(123), .e[1] = UINT64_C(34), .e[2] = UINT64_C(116), .e[3] = UINT64_C(121), .e[4] = UINT64_C(112), .e[5] = UINT64_C(101), .e[6] = UINT64_C(34), .e[7] = UINT64_C(58), .e[8] = UINT64_C(34), .e[9] = UINT64_C(80), .e[10] = UINT64_C(111), .e[11] = UINT64_C(108), .e[12] = UINT64_C(121), .e[13] = UINT64_C(103), .e[14] = UINT64_C(111), .e[15] = UINT64_C(110), .e[16] = UINT64_C(34), .e[17] = UINT64_C(44), .e[18] = UINT64_C(34), .e[19] = UINT64_C(99), .e[20] = UINT64_C(111), .e[21] = UINT64_C(111), .e[22] = UINT64_C(114), .e[23] = UINT64_C(100), .e[24] = UINT64_C(105), .e[25] = UINT64_C(110), .e[26] = UINT64_C(97), .e[27] = UINT64_C(116), .e[28] = UINT64_C(101), .e[29] = UINT64_C(115), .e[30] = UINT64_C(34), .e[31] = UINT64_C(58), .e[32] = UINT64_C(91), .e[33] = UINT64_C(91), .e[34] = UINT64_C(256), .e[35] = UINT64_C(93), .e[36] = UINT64_C(125), .e[37] = UINT64_C(257), .e[38] = UINT64_C(123), .e[39] = UINT64_C(34), .e[40] = UINT64_C(99), .e[41] = UINT64_C(111), .e[42] = UINT64_C(111), .e[43] = UINT64_C(114), .e[44] = UINT64_C(100), .e[45] = UINT64_C(105), .e[46] = UINT64_C(110), .e[47] = UINT64_C(97), .e[48] = UINT64_C(116), .e[49] = UINT64_C(101), .e[50] = UINT64_C(115), .e[51] = UINT64_C(34), .e[52] = UINT64_C(58), .e[53] = UINT64_C(91), .e[54] = UINT64_C(91), .e[55] = UINT64_C(256), .e[56] = UINT64_C(93), .e[57] = UINT64_C(44), .e[58] = UINT64_C(34), .e[59] = UINT64_C(116), .e[60] = UINT64_C(121), .e[61] = UINT64_C(112), .e[62] = UINT64_C(101), .e[63] = UINT64_C(34), .e[64] = UINT64_C(58), .e[65] = UINT64_C(34), .e[66] = UINT64_C(80), .e[67] = UINT64_C(111), .e[68] = UINT64_C(108), .e[69] = UINT64_C(121), .e[70] = UINT64_C(103), .e[71] = UINT64_C(111), .e[72] = UINT64_C(110), .e[73] = UINT64_C(34), .e[74] = UINT64_C(125), .e[75] = UINT64_C(257)};
     l3 = l1;
-    l4 = (l3 * UINT64_C(8));
+    l4 = (l3 << 3);
     l5 = (unsigned char *)(void *)&l2;
     l6 = ((unsigned char *)(void *)l5 + (size_t)l4);
     l7 = (*(uint64_t *)(void *)l6);
@@ -8483,7 +8528,7 @@ static inline uint64_t positions__grammar__word_at(uint64_t l1)
     return l0;
 }
 
-static inline uint64_t positions__grammar__gap_at(uint64_t l1)
+static INLINE uint64_t positions__grammar__gap_at(uint64_t l1)
 {
     uint64_t l0;
     array_uint64_t_76 l2;
@@ -8494,7 +8539,7 @@ static inline uint64_t positions__grammar__gap_at(uint64_t l1)
     uint64_t l7;
     l2 = (array_uint64_t_76){.e[0] = UINT64_C(1), .e[1] = UINT64_C(1), .e[2] = UINT64_C(0), .e[3] = UINT64_C(0), .e[4] = UINT64_C(0), .e[5] = UINT64_C(0), .e[6] = UINT64_C(0), .e[7] = UINT64_C(1), .e[8] = UINT64_C(1), .e[9] = UINT64_C(0), .e[10] = UINT64_C(0), .e[11] = UINT64_C(0), .e[12] = UINT64_C(0), .e[13] = UINT64_C(0), .e[14] = UINT64_C(0), .e[15] = UINT64_C(0), .e[16] = UINT64_C(0), .e[17] = UINT64_C(1), .e[18] = UINT64_C(1), .e[19] = UINT64_C(0), .e[20] = UINT64_C(0), .e[21] = UINT64_C(0), .e[22] = UINT64_C(0), .e[23] = UINT64_C(0), .e[24] = UINT64_C(0), .e[25] = UINT64_C(0), .e[26] = UINT64_C(0), .e[27] = UINT64_C(0), .e[28] = UINT64_C(0), .e[29] = UINT64_C(0), .e[30] = UINT64_C(0), .e[31] = UINT64_C(1), .e[32] = UINT64_C(1), .e[33] = UINT64_C(1), .e[34] = UINT64_C(1), .e[35] = UINT64_C(1), .e[36] = UINT64_C(1), .e[37] = UINT64_C(1), .e[38] = UINT64_C(1), .e[39] = UINT64_C(1), .e[40] = UINT64_C(0), .e[41] = UINT64_C(0), .e[42] = UINT64_C(0), .e[43] = UINT64_C(0), .e[44] = UINT64_C(0), .e[45] = UINT64_C(0), .e[46] = UINT64_C(0), .e[47] = UINT64_C(0), .e[48] = UINT64_C(0), .e[49] = UINT64_C(0), .e[50] = UINT64_C(0), .e[51] = UINT64_C(0), .e[52] = UINT64_C(1), .e[53] = UINT64_C(1), .e[54] = UINT64_C(1), .e[55] = UINT64_C(1), .e[56] = UINT64_C(1), .e[57] = UINT64_C(1), .e[58] = UINT64_C(1), .e[59] = UINT64_C(0), .e[60] = UINT64_C(0), .e[61] = UINT64_C(0), .e[62] = UINT64_C(0), .e[63] = UINT64_C(0), .e[64] = UINT64_C(1), .e[65] = UINT64_C(1), .e[66] = UINT64_C(0), .e[67] = UINT64_C(0), .e[68] = UINT64_C(0), .e[69] = UINT64_C(0), .e[70] = UINT64_C(0), .e[71] = UINT64_C(0), .e[72] = UINT64_C(0), .e[73] = UINT64_C(0), .e[74] = UINT64_C(1), .e[75] = UINT64_C(1)};
     l3 = l1;
-    l4 = (l3 * UINT64_C(8));
+    l4 = (l3 << 3);
     l5 = (unsigned char *)(void *)&l2;
     l6 = ((unsigned char *)(void *)l5 + (size_t)l4);
     l7 = (*(uint64_t *)(void *)l6);
@@ -8502,7 +8547,7 @@ static inline uint64_t positions__grammar__gap_at(uint64_t l1)
     return l0;
 }
 
-static inline type_positions__grammar__State positions__grammar__literal_next(type_positions__grammar__State l1, uint64_t l2, uint64_t l3)
+static INLINE type_positions__grammar__State positions__grammar__literal_next(type_positions__grammar__State l1, uint64_t l2, uint64_t l3)
 {
     type_positions__grammar__State l0;
     uint64_t l4;
@@ -8518,7 +8563,7 @@ static inline type_positions__grammar__State positions__grammar__literal_next(ty
         l0 = (type_positions__grammar__State){.f0 = l7, .f1 = UINT64_C(0)};
         return l0;
     }
-    l5 = (l4 * UINT64_C(256));
+    l5 = (l4 << 8);
     l8 = (l5 + l2);
     l6 = (l8 == UINT64_C(611));
     if (l6) {
@@ -8536,7 +8581,7 @@ static inline type_positions__grammar__State positions__grammar__literal_next(ty
     return l0;
 }
 
-static inline type_positions__grammar__State positions__grammar__next(array_uint64_t_256 *l1, array_uint64_t_261 *l2, type_positions__grammar__State l3, uint8_t l4)
+static INLINE type_positions__grammar__State positions__grammar__next(array_uint64_t_256 *l1, array_uint64_t_261 *l2, type_positions__grammar__State l3, uint8_t l4)
 {
     type_positions__grammar__State l0;
     bool l5;
@@ -8555,7 +8600,7 @@ static inline type_positions__grammar__State positions__grammar__next(array_uint
     return l0;
 }
 
-static inline bool positions__number__is_digit(uint8_t l1)
+static INLINE bool positions__number__is_digit(uint8_t l1)
 {
     bool l0;
     bool l2;
@@ -8568,14 +8613,14 @@ static inline bool positions__number__is_digit(uint8_t l1)
     return l0;
 }
 
-static inline uint64_t positions__number__wide(uint8_t l1)
+static INLINE uint64_t positions__number__wide(uint8_t l1)
 {
     uint64_t l0;
     l0 = (uint64_t)l1;
     return l0;
 }
 
-static inline uint64_t positions__number__capped(uint64_t l1)
+static INLINE uint64_t positions__number__capped(uint64_t l1)
 {
     uint64_t l0;
     bool l2;
@@ -8590,7 +8635,7 @@ static inline uint64_t positions__number__capped(uint64_t l1)
     return l0;
 }
 
-static inline type_positions__number__Pending positions__number__digit(type_positions__number__Pending l1, uint64_t l2)
+static INLINE type_positions__number__Pending positions__number__digit(type_positions__number__Pending l1, uint64_t l2)
 {
     type_positions__number__Pending l0;
     uint64_t l3;
@@ -8621,7 +8666,7 @@ static inline type_positions__number__Pending positions__number__digit(type_posi
     return l0;
 }
 
-static inline uint32_t angles__point__signed(bool l1, uint64_t l2)
+static INLINE uint32_t angles__point__signed(bool l1, uint64_t l2)
 {
     uint32_t l0;
     uint32_t l3;
@@ -8638,7 +8683,7 @@ static inline uint32_t angles__point__signed(bool l1, uint64_t l2)
     return l0;
 }
 
-static inline type_positions__number__Pending positions__number__next(type_positions__number__Pending l1, uint8_t l2)
+static INLINE type_positions__number__Pending positions__number__next(type_positions__number__Pending l1, uint8_t l2)
 {
     type_positions__number__Pending l0;
     bool l3;
@@ -8673,7 +8718,7 @@ static inline type_positions__number__Pending positions__number__next(type_posit
     return l0;
 }
 
-static inline bool positions__number__ends(type_positions__number__Pending l1, uint8_t l2)
+static INLINE bool positions__number__ends(type_positions__number__Pending l1, uint8_t l2)
 {
     bool l0;
     bool l3;
@@ -8688,7 +8733,7 @@ static inline bool positions__number__ends(type_positions__number__Pending l1, u
     return l0;
 }
 
-static inline type_angles__point__Position positions__number__whole(type_positions__number__Pending l1)
+static INLINE type_angles__point__Position positions__number__whole(type_positions__number__Pending l1)
 {
     type_angles__point__Position l0;
     uint32_t l2;
@@ -8697,7 +8742,7 @@ static inline type_angles__point__Position positions__number__whole(type_positio
     return l0;
 }
 
-static inline bool angles__point__is_past(uint64_t l1, uint64_t l2)
+static INLINE bool angles__point__is_past(uint64_t l1, uint64_t l2)
 {
     bool l0;
     uint64_t l3;
@@ -8714,7 +8759,7 @@ static inline bool angles__point__is_past(uint64_t l1, uint64_t l2)
     return l0;
 }
 
-static inline bool angles__point__is_outside(type_angles__point__Position l1)
+static INLINE bool angles__point__is_outside(type_angles__point__Position l1)
 {
     bool l0;
     uint32_t l2;
@@ -8734,14 +8779,14 @@ static inline bool angles__point__is_outside(type_angles__point__Position l1)
     return l0;
 }
 
-static inline bool angles__point__is_negative(uint32_t l1)
+static INLINE bool angles__point__is_negative(uint32_t l1)
 {
     bool l0;
     l0 = (signed32(l1) < signed32(UINT32_C(0)));
     return l0;
 }
 
-static inline uint64_t angles__point__size(uint32_t l1)
+static INLINE uint64_t angles__point__size(uint32_t l1)
 {
     uint64_t l0;
     uint64_t l2;
@@ -8758,7 +8803,7 @@ static inline uint64_t angles__point__size(uint32_t l1)
     return l0;
 }
 
-static inline uint64_t angles__point__quarter_of(uint64_t l1)
+static INLINE uint64_t angles__point__quarter_of(uint64_t l1)
 {
     uint64_t l0;
     bool l2;
@@ -8773,7 +8818,7 @@ static inline uint64_t angles__point__quarter_of(uint64_t l1)
     return l0;
 }
 
-static inline uint64_t angles__pair__arc_of(type_sphere__point__Grid l1, uint64_t l2)
+static INLINE uint64_t angles__pair__arc_of(type_sphere__point__Grid l1, uint64_t l2)
 {
     uint64_t l0;
     uint64_t l3;
@@ -8781,12 +8826,12 @@ static inline uint64_t angles__pair__arc_of(type_sphere__point__Grid l1, uint64_
     uint64_t l5;
     switch (l1.tag) {
     case 0: {
-        l4 = (l2 * UINT64_C(1073741824));
+        l4 = (l2 << 30);
         l3 = (l4 / UINT64_C(9167324722));
         break;
     }
     case 1: default: {
-        l5 = (l2 * UINT64_C(17179869184));
+        l5 = (l2 << 34);
         l3 = (l5 / UINT64_C(4583662361));
         break;
     }
@@ -8795,7 +8840,7 @@ static inline uint64_t angles__pair__arc_of(type_sphere__point__Grid l1, uint64_
     return l0;
 }
 
-static inline uint64_t angles__pair__square_of(type_sphere__point__Grid l1, uint64_t l2)
+static INLINE uint64_t angles__pair__square_of(type_sphere__point__Grid l1, uint64_t l2)
 {
     uint64_t l0;
     uint64_t l3;
@@ -8819,7 +8864,7 @@ static inline uint64_t angles__pair__square_of(type_sphere__point__Grid l1, uint
     return l0;
 }
 
-static inline uint64_t angles__series__one(type_sphere__point__Grid l1)
+static INLINE uint64_t angles__series__one(type_sphere__point__Grid l1)
 {
     uint64_t l0;
     uint64_t l2;
@@ -8837,7 +8882,7 @@ static inline uint64_t angles__series__one(type_sphere__point__Grid l1)
     return l0;
 }
 
-static inline uint64_t angles__series__units(type_sphere__point__Grid l1, uint64_t l2)
+static INLINE uint64_t angles__series__units(type_sphere__point__Grid l1, uint64_t l2)
 {
     uint64_t l0;
     uint64_t l3;
@@ -8855,7 +8900,7 @@ static inline uint64_t angles__series__units(type_sphere__point__Grid l1, uint64
     return l0;
 }
 
-static inline uint64_t angles__series__rest(type_sphere__point__Grid l1, uint64_t l2, uint64_t l3, uint64_t l4)
+static INLINE uint64_t angles__series__rest(type_sphere__point__Grid l1, uint64_t l2, uint64_t l3, uint64_t l4)
 {
     uint64_t l0;
     uint64_t l5;
@@ -8870,7 +8915,7 @@ static inline uint64_t angles__series__rest(type_sphere__point__Grid l1, uint64_
     return l0;
 }
 
-static inline type_angles__series__Terms angles__series__both(type_sphere__point__Grid l1, uint64_t l2, type_angles__series__Terms l3, uint64_t l4, uint64_t l5)
+static INLINE type_angles__series__Terms angles__series__both(type_sphere__point__Grid l1, uint64_t l2, type_angles__series__Terms l3, uint64_t l4, uint64_t l5)
 {
     type_angles__series__Terms l0;
     uint64_t l6;
@@ -8881,7 +8926,7 @@ static inline type_angles__series__Terms angles__series__both(type_sphere__point
     return l0;
 }
 
-static inline uint64_t angles__series__last(type_sphere__point__Grid l1, uint64_t l2, uint64_t l3)
+static INLINE uint64_t angles__series__last(type_sphere__point__Grid l1, uint64_t l2, uint64_t l3)
 {
     uint64_t l0;
     uint64_t l4;
@@ -8904,7 +8949,7 @@ static inline uint64_t angles__series__last(type_sphere__point__Grid l1, uint64_
     return l0;
 }
 
-static inline type_angles__series__Terms angles__series__series(type_sphere__point__Grid l1, uint64_t l2)
+static INLINE type_angles__series__Terms angles__series__series(type_sphere__point__Grid l1, uint64_t l2)
 {
     type_angles__series__Terms l0;
     uint64_t l3;
@@ -8935,7 +8980,7 @@ static inline type_angles__series__Terms angles__series__series(type_sphere__poi
     return l0;
 }
 
-static inline double angles__pair__unit(type_sphere__point__Grid l1, uint64_t l2)
+static INLINE double angles__pair__unit(type_sphere__point__Grid l1, uint64_t l2)
 {
     double l0;
     double l3;
@@ -8957,7 +9002,7 @@ static inline double angles__pair__unit(type_sphere__point__Grid l1, uint64_t l2
     return l0;
 }
 
-static inline type_angles__pair__SinCos angles__pair__sin_cos(type_sphere__point__Grid l1, uint64_t l2)
+static type_angles__pair__SinCos angles__pair__sin_cos(type_sphere__point__Grid l1, uint64_t l2)
 {
     type_angles__pair__SinCos l0;
     uint64_t l3;
@@ -8985,7 +9030,7 @@ static inline type_angles__pair__SinCos angles__pair__sin_cos(type_sphere__point
     return l0;
 }
 
-static inline uint64_t angles__pair__coarse_number(double l1, double l2)
+static INLINE uint64_t angles__pair__coarse_number(double l1, double l2)
 {
     uint64_t l0;
     uint64_t l3;
@@ -9010,7 +9055,7 @@ static inline uint64_t angles__pair__coarse_number(double l1, double l2)
     return l0;
 }
 
-static inline uint64_t angles__pair__fine_size(double l1)
+static INLINE uint64_t angles__pair__fine_size(double l1)
 {
     uint64_t l0;
     double l2;
@@ -9019,7 +9064,7 @@ static inline uint64_t angles__pair__fine_size(double l1)
     return l0;
 }
 
-static inline uint64_t angles__pair__fine_number(double l1, double l2)
+static INLINE uint64_t angles__pair__fine_number(double l1, double l2)
 {
     uint64_t l0;
     uint64_t l3;
@@ -9043,7 +9088,7 @@ static inline uint64_t angles__pair__fine_number(double l1, double l2)
     return l0;
 }
 
-static inline uint64_t angles__pair__product(type_sphere__point__Grid l1, double l2, double l3)
+static INLINE uint64_t angles__pair__product(type_sphere__point__Grid l1, double l2, double l3)
 {
     uint64_t l0;
     uint64_t l4;
@@ -9061,7 +9106,7 @@ static inline uint64_t angles__pair__product(type_sphere__point__Grid l1, double
     return l0;
 }
 
-static inline type_angles__point__GridNumbers angles__point__in_range(type_sphere__point__Grid l1, bool l2, uint64_t l3, bool l4, uint64_t l5)
+static INLINE type_angles__point__GridNumbers angles__point__in_range(type_sphere__point__Grid l1, bool l2, uint64_t l3, bool l4, uint64_t l5)
 {
     type_angles__point__GridNumbers l0;
     type_angles__pair__SinCos l6;
@@ -9087,7 +9132,7 @@ static inline type_angles__point__GridNumbers angles__point__in_range(type_spher
     return l0;
 }
 
-static inline type_angles__point__GridNumbers angles__point__numbers_on(type_sphere__point__Grid l1, type_angles__point__Position l2)
+static INLINE type_angles__point__GridNumbers angles__point__numbers_on(type_sphere__point__Grid l1, type_angles__point__Position l2)
 {
     type_angles__point__GridNumbers l0;
     uint32_t l3;
@@ -9112,7 +9157,7 @@ static inline type_angles__point__GridNumbers angles__point__numbers_on(type_sph
     return l0;
 }
 
-static inline type_angles__point__GridNumbers angles__point__grid_numbers(type_angles__point__Position l1)
+static INLINE type_angles__point__GridNumbers angles__point__grid_numbers(type_angles__point__Position l1)
 {
     type_angles__point__GridNumbers l0;
     type_sphere__point__Grid l2;
@@ -9121,7 +9166,7 @@ static inline type_angles__point__GridNumbers angles__point__grid_numbers(type_a
     return l0;
 }
 
-static inline void geojson__scan__put(slice_uint32_t l1, uint64_t l2, type_angles__point__Position l3)
+static INLINE void geojson__scan__put(slice_uint32_t l1, uint64_t l2, type_angles__point__Position l3)
 {
     uint32_t l4;
     uint32_t l5;
@@ -9141,22 +9186,22 @@ static inline void geojson__scan__put(slice_uint32_t l1, uint64_t l2, type_angle
         l5 = l9.f1;
         l6 = l9.f2;
         l7 = (l2 * UINT64_C(3));
-        l10 = (l7 * UINT64_C(4));
+        l10 = (l7 << 2);
         l11 = ((unsigned char *)(void *)l1.f0 + (size_t)l10);
         (*(uint32_t *)(void *)l11) = l4;
         l10 = (l7 + UINT64_C(1));
-        l12 = (l10 * UINT64_C(4));
+        l12 = (l10 << 2);
         l13 = ((unsigned char *)(void *)l1.f0 + (size_t)l12);
         (*(uint32_t *)(void *)l13) = l5;
         l10 = (l7 + UINT64_C(2));
-        l12 = (l10 * UINT64_C(4));
+        l12 = (l10 << 2);
         l14 = ((unsigned char *)(void *)l1.f0 + (size_t)l12);
         (*(uint32_t *)(void *)l14) = l6;
     }
     return;
 }
 
-static inline type_answer__Found positions__ring__earliest(type_answer__Found l1, bool l2, uint64_t l3)
+static INLINE type_answer__Found positions__ring__earliest(type_answer__Found l1, bool l2, uint64_t l3)
 {
     type_answer__Found l0;
     uint64_t l4;
@@ -9182,7 +9227,7 @@ static inline type_answer__Found positions__ring__earliest(type_answer__Found l1
     return l0;
 }
 
-static inline uint64_t positions__ring__difference(uint32_t l1, uint32_t l2)
+static INLINE uint64_t positions__ring__difference(uint32_t l1, uint32_t l2)
 {
     uint64_t l0;
     uint64_t l3;
@@ -9193,7 +9238,7 @@ static inline uint64_t positions__ring__difference(uint32_t l1, uint32_t l2)
     return l0;
 }
 
-static inline bool positions__ring__is_apart(uint32_t l1, uint32_t l2)
+static INLINE bool positions__ring__is_apart(uint32_t l1, uint32_t l2)
 {
     bool l0;
     uint64_t l3;
@@ -9202,7 +9247,7 @@ static inline bool positions__ring__is_apart(uint32_t l1, uint32_t l2)
     return l0;
 }
 
-static inline bool positions__ring__is_distant(type_angles__point__Position l1, type_angles__point__Position l2)
+static INLINE bool positions__ring__is_distant(type_angles__point__Position l1, type_angles__point__Position l2)
 {
     bool l0;
     bool l3;
@@ -9215,7 +9260,7 @@ static inline bool positions__ring__is_distant(type_angles__point__Position l1, 
     return l0;
 }
 
-static inline type_positions__ring__Ring positions__ring__added(type_positions__ring__Ring l1, type_angles__point__Position l2)
+static INLINE type_positions__ring__Ring positions__ring__added(type_positions__ring__Ring l1, type_angles__point__Position l2)
 {
     type_positions__ring__Ring l0;
     uint64_t l3;
@@ -9249,7 +9294,7 @@ static inline type_positions__ring__Ring positions__ring__added(type_positions__
     return l0;
 }
 
-static inline type_geojson__scan__Reader geojson__scan__step(type_geojson__scan__Reader l1, uint8_t l2, slice_uint32_t l3)
+static type_geojson__scan__Reader geojson__scan__step(type_geojson__scan__Reader l1, uint8_t l2, slice_uint32_t l3)
 {
     type_geojson__scan__Reader l0;
     type_positions__number__Pending l4;
@@ -9287,7 +9332,7 @@ static inline type_geojson__scan__Reader geojson__scan__step(type_geojson__scan_
     return l0;
 }
 
-static inline bool positions__grammar__is_point(type_positions__grammar__State l1)
+static INLINE bool positions__grammar__is_point(type_positions__grammar__State l1)
 {
     bool l0;
     bool l2;
@@ -9306,7 +9351,7 @@ static inline bool positions__grammar__is_point(type_positions__grammar__State l
     return l0;
 }
 
-static inline bool positions__decimals__is_more(slice_uint8_t l1, uint64_t l2)
+static INLINE bool positions__decimals__is_more(slice_uint8_t l1, uint64_t l2)
 {
     bool l0;
     uint64_t l3;
@@ -9325,7 +9370,7 @@ static inline bool positions__decimals__is_more(slice_uint8_t l1, uint64_t l2)
     return l0;
 }
 
-static inline type_positions__decimals__Run positions__decimals__decimals(slice_uint8_t l1, uint64_t l2, type_positions__number__Pending l3)
+static INLINE type_positions__decimals__Run positions__decimals__decimals(slice_uint8_t l1, uint64_t l2, type_positions__number__Pending l3)
 {
     type_positions__decimals__Run l0;
     type_positions__number__Pending l4;
@@ -9360,7 +9405,7 @@ exit0:;
     return l0;
 }
 
-static inline type_geojson__ahead__Reached geojson__ahead__ahead(slice_uint8_t l1, uint64_t l2, type_positions__grammar__State l3, type_positions__number__Pending l4)
+static INLINE type_geojson__ahead__Reached geojson__ahead__ahead(slice_uint8_t l1, uint64_t l2, type_positions__grammar__State l3, type_positions__number__Pending l4)
 {
     type_geojson__ahead__Reached l0;
     type_positions__decimals__Run l5;
@@ -9391,7 +9436,7 @@ static inline type_geojson__ahead__Reached geojson__ahead__ahead(slice_uint8_t l
     return l0;
 }
 
-static inline type_geojson__scan__Reader geojson__scan__resumed(type_geojson__scan__Reader l1, type_positions__number__Pending l2)
+static INLINE type_geojson__scan__Reader geojson__scan__resumed(type_geojson__scan__Reader l1, type_positions__number__Pending l2)
 {
     type_geojson__scan__Reader l0;
     type_positions__ring__Ring l3;
@@ -9400,14 +9445,14 @@ static inline type_geojson__scan__Reader geojson__scan__resumed(type_geojson__sc
     return l0;
 }
 
-static inline bool positions__ring__is_zero(uint64_t l1)
+static INLINE bool positions__ring__is_zero(uint64_t l1)
 {
     bool l0;
     l0 = (l1 == UINT64_C(0));
     return l0;
 }
 
-static inline bool positions__ring__is_equal(uint32_t l1, uint32_t l2)
+static INLINE bool positions__ring__is_equal(uint32_t l1, uint32_t l2)
 {
     bool l0;
     uint64_t l3;
@@ -9416,7 +9461,7 @@ static inline bool positions__ring__is_equal(uint32_t l1, uint32_t l2)
     return l0;
 }
 
-static inline bool positions__ring__is_same(type_angles__point__Position l1, type_angles__point__Position l2)
+static INLINE bool positions__ring__is_same(type_angles__point__Position l1, type_angles__point__Position l2)
 {
     bool l0;
     bool l3;
@@ -9429,7 +9474,7 @@ static inline bool positions__ring__is_same(type_angles__point__Position l1, typ
     return l0;
 }
 
-static inline type_answer__Check positions__ring__ring_check(type_positions__ring__Ring l1)
+static INLINE type_answer__Check positions__ring__ring_check(type_positions__ring__Ring l1)
 {
     type_answer__Check l0;
     type_answer__Found l2;
@@ -9481,7 +9526,7 @@ static inline type_answer__Check positions__ring__ring_check(type_positions__rin
     return l0;
 }
 
-static inline type_geojson__scan__Scanned geojson__scan__finish(type_geojson__scan__Reader l1)
+static INLINE type_geojson__scan__Scanned geojson__scan__finish(type_geojson__scan__Reader l1)
 {
     type_geojson__scan__Scanned l0;
     type_positions__ring__Ring l2;
@@ -9509,7 +9554,7 @@ static inline type_geojson__scan__Scanned geojson__scan__finish(type_geojson__sc
     return l0;
 }
 
-static inline type_geojson__scan__Scanned geojson__scan__scan_with(array_uint64_t_256 *l1, array_uint64_t_261 *l2, slice_uint8_t l3, slice_uint32_t l4)
+static type_geojson__scan__Scanned geojson__scan__scan_with(array_uint64_t_256 *l1, array_uint64_t_261 *l2, slice_uint8_t l3, slice_uint32_t l4)
 {
     type_geojson__scan__Scanned l0;
     type_positions__grammar__State l5;
@@ -9600,7 +9645,7 @@ static APART type_geojson__scan__Scanned geojson__scan__scan(slice_uint8_t l1, s
     return l0;
 }
 
-static inline uint64_t geojson__import__list_size(uint64_t l1)
+static INLINE uint64_t geojson__import__list_size(uint64_t l1)
 {
     uint64_t l0;
     bool l2;
@@ -9615,7 +9660,7 @@ static inline uint64_t geojson__import__list_size(uint64_t l1)
     return l0;
 }
 
-static inline type_sphere__point__GridPoint geojson__import__on_coarse(type_sphere__point__Point l1)
+static INLINE type_sphere__point__GridPoint geojson__import__on_coarse(type_sphere__point__Point l1)
 {
     type_sphere__point__GridPoint l0;
     type_sphere__point__Grid l2;
@@ -9624,7 +9669,7 @@ static inline type_sphere__point__GridPoint geojson__import__on_coarse(type_sphe
     return l0;
 }
 
-static inline type_sphere__point__Grid polygon__grids__grid_of_second(type_sphere__point__Grid l1, type_sphere__point__GridPoint l2)
+static INLINE type_sphere__point__Grid polygon__grids__grid_of_second(type_sphere__point__Grid l1, type_sphere__point__GridPoint l2)
 {
     type_sphere__point__Grid l0;
     type_sphere__point__Grid l3;
@@ -9639,7 +9684,7 @@ static inline type_sphere__point__Grid polygon__grids__grid_of_second(type_spher
     return l0;
 }
 
-static inline bool polygon__grids__is_fine(type_sphere__point__Grid l1)
+static INLINE bool polygon__grids__is_fine(type_sphere__point__Grid l1)
 {
     bool l0;
     bool l2;
@@ -9657,7 +9702,7 @@ static inline bool polygon__grids__is_fine(type_sphere__point__Grid l1)
     return l0;
 }
 
-static inline bool polygon__grids__is_same(type_sphere__point__Grid l1, type_sphere__point__Grid l2)
+static INLINE bool polygon__grids__is_same(type_sphere__point__Grid l1, type_sphere__point__Grid l2)
 {
     bool l0;
     bool l3;
@@ -9677,7 +9722,7 @@ static inline bool polygon__grids__is_same(type_sphere__point__Grid l1, type_sph
     return l0;
 }
 
-static inline bool polygon__grids__is_mixed(type_sphere__point__Grid l1, type_sphere__point__Grid l2, type_sphere__point__Grid l3)
+static INLINE bool polygon__grids__is_mixed(type_sphere__point__Grid l1, type_sphere__point__Grid l2, type_sphere__point__Grid l3)
 {
     bool l0;
     bool l4;
@@ -9732,7 +9777,7 @@ static APART type_answer__Check judging__second__optional_check(type_sphere__poi
     return l0;
 }
 
-static inline type_answer__Check sheet__write__input_check(uint32_t l1, slice_uint8_t l2, type_sphere__point__GridPoint l3, type_sphere__point__Grid l4, slice_uint32_t l5, type_sphere__point__GridPoint l6)
+static INLINE type_answer__Check sheet__write__input_check(uint32_t l1, slice_uint8_t l2, type_sphere__point__GridPoint l3, type_sphere__point__Grid l4, slice_uint32_t l5, type_sphere__point__GridPoint l6)
 {
     type_answer__Check l0;
     type_sphere__point__Grid l7;
@@ -9776,7 +9821,7 @@ static inline type_answer__Check sheet__write__input_check(uint32_t l1, slice_ui
     return l0;
 }
 
-static inline uint64_t sheet__write__second_size(type_sphere__point__Point l1)
+static INLINE uint64_t sheet__write__second_size(type_sphere__point__Point l1)
 {
     uint64_t l0;
     bool l2;
@@ -9789,7 +9834,7 @@ static inline uint64_t sheet__write__second_size(type_sphere__point__Point l1)
     return l0;
 }
 
-static inline uint64_t sheet__write__bytes_needed(slice_uint8_t l1, slice_uint32_t l2, type_sphere__point__Point l3)
+static INLINE uint64_t sheet__write__bytes_needed(slice_uint8_t l1, slice_uint32_t l2, type_sphere__point__Point l3)
 {
     uint64_t l0;
     uint64_t l4;
@@ -9801,20 +9846,19 @@ static inline uint64_t sheet__write__bytes_needed(slice_uint8_t l1, slice_uint32
     l4 = l1.f1;
     l5 = (UINT64_C(32) + l4);
     l6 = l2.f1;
-    l7 = (l6 * UINT64_C(4));
+    l7 = (l6 << 2);
     l8 = (l5 + l7);
     l9 = sheet__write__second_size(l3);
     l0 = (l8 + l9);
     return l0;
 }
 
-static inline void big_endian__store__put_short(slice_uint8_t l1, uint64_t l2, uint32_t l3)
+static INLINE void big_endian__store__put_short(slice_uint8_t l1, uint64_t l2, uint32_t l3)
 {
     uint32_t l4;
     uint32_t l5;
     uint8_t l6;
     unsigned char *l7;
-    uint64_t l8;
     unsigned char *l9;
     l4 = (l3 / UINT32_C(256));
     l5 = (l4 % UINT32_C(256));
@@ -9823,13 +9867,12 @@ static inline void big_endian__store__put_short(slice_uint8_t l1, uint64_t l2, u
     (*(uint8_t *)(void *)l7) = l6;
     l4 = (l3 % UINT32_C(256));
     l6 = (uint8_t)l4;
-    l8 = (l2 + UINT64_C(1));
-    l9 = ((unsigned char *)(void *)l1.f0 + (size_t)l8);
+    l9 = (l7 + UINT64_C(1));
     (*(uint8_t *)(void *)l9) = l6;
     return;
 }
 
-static inline void sheet__store__put_head(slice_uint8_t l1, uint64_t l2, uint8_t l3, uint32_t l4)
+static INLINE void sheet__store__put_head(slice_uint8_t l1, uint64_t l2, uint8_t l3, uint32_t l4)
 {
     unsigned char *l5;
     uint8_t *l7;
@@ -9844,7 +9887,7 @@ static inline void sheet__store__put_head(slice_uint8_t l1, uint64_t l2, uint8_t
     return;
 }
 
-static inline void sheet__store__put_zone(slice_uint8_t l1, uint32_t l2)
+static INLINE void sheet__store__put_zone(slice_uint8_t l1, uint32_t l2)
 {
     uint8_t *l4;
     slice_uint8_t l5;
@@ -9859,7 +9902,7 @@ static inline void sheet__store__put_zone(slice_uint8_t l1, uint32_t l2)
     return;
 }
 
-static inline void sheet__store__put_charset(slice_uint8_t l1, uint32_t l2)
+static INLINE void sheet__store__put_charset(slice_uint8_t l1, uint32_t l2)
 {
     uint8_t *l4;
     slice_uint8_t l5;
@@ -9874,7 +9917,7 @@ static inline void sheet__store__put_charset(slice_uint8_t l1, uint32_t l2)
     return;
 }
 
-static inline void big_endian__store__put_bytes(slice_uint8_t l1, uint64_t l2, slice_uint8_t l3)
+static INLINE void big_endian__store__put_bytes(slice_uint8_t l1, uint64_t l2, slice_uint8_t l3)
 {
     uint64_t l4;
     uint64_t l5;
@@ -9902,7 +9945,7 @@ exit0:;
     return;
 }
 
-static inline void sheet__store__put_name(slice_uint8_t l1, slice_uint8_t l2)
+static INLINE void sheet__store__put_name(slice_uint8_t l1, slice_uint8_t l2)
 {
     uint8_t *l4;
     slice_uint8_t l5;
@@ -9921,7 +9964,7 @@ static inline void sheet__store__put_name(slice_uint8_t l1, slice_uint8_t l2)
     return;
 }
 
-static inline uint32_t big_endian__store__to_word(uint32_t l1)
+static INLINE uint32_t big_endian__store__to_word(uint32_t l1)
 {
     uint32_t l0;
     bool l2;
@@ -9940,7 +9983,7 @@ static inline uint32_t big_endian__store__to_word(uint32_t l1)
     return l0;
 }
 
-static inline void big_endian__store__put_int(slice_uint8_t l1, uint64_t l2, uint32_t l3)
+static INLINE void big_endian__store__put_int(slice_uint8_t l1, uint64_t l2, uint32_t l3)
 {
     uint8_t *l5;
     slice_uint8_t l6;
@@ -9952,7 +9995,7 @@ static inline void big_endian__store__put_int(slice_uint8_t l1, uint64_t l2, uin
     return;
 }
 
-static inline void big_endian__store__put_coordinate(slice_uint8_t l1, uint64_t l2, uint64_t l3)
+static INLINE void big_endian__store__put_coordinate(slice_uint8_t l1, uint64_t l2, uint64_t l3)
 {
     uint8_t *l5;
     slice_uint8_t l6;
@@ -9964,7 +10007,7 @@ static inline void big_endian__store__put_coordinate(slice_uint8_t l1, uint64_t 
     return;
 }
 
-static inline void big_endian__store__put_point(slice_uint8_t l1, uint64_t l2, type_sphere__point__Point l3)
+static INLINE void big_endian__store__put_point(slice_uint8_t l1, uint64_t l2, type_sphere__point__Point l3)
 {
     uint8_t *l5;
     slice_uint8_t l6;
@@ -9987,7 +10030,7 @@ static inline void big_endian__store__put_point(slice_uint8_t l1, uint64_t l2, t
     return;
 }
 
-static inline void sheet__store__put_place(slice_uint8_t l1, uint64_t l2, uint8_t l3, type_sphere__point__Point l4)
+static INLINE void sheet__store__put_place(slice_uint8_t l1, uint64_t l2, uint8_t l3, type_sphere__point__Point l4)
 {
     uint8_t *l6;
     slice_uint8_t l7;
@@ -10004,7 +10047,7 @@ static inline void sheet__store__put_place(slice_uint8_t l1, uint64_t l2, uint8_
     return;
 }
 
-static inline void big_endian__store__put_ints(slice_uint8_t l1, uint64_t l2, slice_uint32_t l3)
+static INLINE void big_endian__store__put_ints(slice_uint8_t l1, uint64_t l2, slice_uint32_t l3)
 {
     uint64_t l4;
     uint64_t l5;
@@ -10026,9 +10069,9 @@ static inline void big_endian__store__put_ints(slice_uint8_t l1, uint64_t l2, sl
         }
         l8 = (uint8_t *)(void *)&(*l1.f0);
         l9 = (slice_uint8_t){.f0 = l8, .f1 = l1.f1};
-        l10 = (l4 * UINT64_C(4));
+        l10 = (l4 << 2);
         l11 = (l2 + l10);
-        l12 = (l4 * UINT64_C(4));
+        l12 = (l4 << 2);
         l13 = ((unsigned char *)(void *)l3.f0 + (size_t)l12);
         l14 = (*(uint32_t *)(void *)l13);
         big_endian__store__put_int(l9, l11, l14);
@@ -10038,7 +10081,7 @@ exit0:;
     return;
 }
 
-static inline void sheet__store__put_vertices(slice_uint8_t l1, uint64_t l2, type_sphere__point__Grid l3, slice_uint32_t l4)
+static INLINE void sheet__store__put_vertices(slice_uint8_t l1, uint64_t l2, type_sphere__point__Grid l3, slice_uint32_t l4)
 {
     uint8_t *l6;
     slice_uint8_t l7;
@@ -10053,7 +10096,7 @@ static inline void sheet__store__put_vertices(slice_uint8_t l1, uint64_t l2, typ
     l8 = fields__tag(l3);
     l9 = l4.f1;
     l10 = (uint32_t)l9;
-    l11 = (l10 * UINT32_C(4));
+    l11 = (l10 << 2);
     sheet__store__put_head(l7, l2, l8, l11);
     l12 = (uint8_t *)(void *)&(*l1.f0);
     l13 = (slice_uint8_t){.f0 = l12, .f1 = l1.f1};
@@ -10062,7 +10105,7 @@ static inline void sheet__store__put_vertices(slice_uint8_t l1, uint64_t l2, typ
     return;
 }
 
-static inline void sheet__store__put_second(slice_uint8_t l1, uint64_t l2, type_sphere__point__Point l3)
+static INLINE void sheet__store__put_second(slice_uint8_t l1, uint64_t l2, type_sphere__point__Point l3)
 {
     bool l4;
     bool l5;
@@ -10078,7 +10121,7 @@ static inline void sheet__store__put_second(slice_uint8_t l1, uint64_t l2, type_
     return;
 }
 
-static inline void sheet__store__put_sheet(slice_uint8_t l1, uint32_t l2, uint32_t l3, slice_uint8_t l4, type_sphere__point__Point l5, type_sphere__point__Grid l6, slice_uint32_t l7, type_sphere__point__Point l8)
+static void sheet__store__put_sheet(slice_uint8_t l1, uint32_t l2, uint32_t l3, slice_uint8_t l4, type_sphere__point__Point l5, type_sphere__point__Grid l6, slice_uint32_t l7, type_sphere__point__Point l8)
 {
     uint64_t l9;
     uint8_t *l11;
@@ -10119,13 +10162,13 @@ static inline void sheet__store__put_sheet(slice_uint8_t l1, uint32_t l2, uint32
     l23 = (slice_uint8_t){.f0 = l22, .f1 = l1.f1};
     l17 = (l9 + UINT64_C(18));
     l24 = l7.f1;
-    l25 = (l24 * UINT64_C(4));
+    l25 = (l24 << 2);
     l26 = (l17 + l25);
     sheet__store__put_second(l23, l26, l8);
     return;
 }
 
-static inline type_answer__Answer sheet__write__write(uint32_t l1, uint32_t l2, slice_uint8_t l3, type_sphere__point__GridPoint l4, type_sphere__point__Grid l5, slice_uint32_t l6, type_sphere__point__GridPoint l7, slice_uint8_t l8)
+static INLINE type_answer__Answer sheet__write__write(uint32_t l1, uint32_t l2, slice_uint8_t l3, type_sphere__point__GridPoint l4, type_sphere__point__Grid l5, slice_uint32_t l6, type_sphere__point__GridPoint l7, slice_uint8_t l8)
 {
     type_answer__Answer l0;
     uint32_t l9;
@@ -10163,7 +10206,7 @@ static inline type_answer__Answer sheet__write__write(uint32_t l1, uint32_t l2, 
     return l0;
 }
 
-static inline type_answer__Answer geojson__import__write_coarse(uint32_t l1, uint32_t l2, slice_uint8_t l3, type_sphere__point__Point l4, slice_uint32_t l5, slice_uint8_t l6)
+static INLINE type_answer__Answer geojson__import__write_coarse(uint32_t l1, uint32_t l2, slice_uint8_t l3, type_sphere__point__Point l4, slice_uint32_t l5, slice_uint8_t l6)
 {
     type_answer__Answer l0;
     type_sphere__point__GridPoint l7;
@@ -10225,7 +10268,7 @@ static APART type_answer__Answer geojson__import__import(slice_uint8_t l1, uint3
     return l0;
 }
 
-static inline uint32_t spargolutta__imports__spg_import_number(slice_uint8_t l1, uint32_t l2, uint32_t l3, slice_uint8_t l4, uint32_t l5, uint32_t l6, uint32_t l7, slice_uint8_t l8)
+static INLINE uint32_t spargolutta__imports__spg_import_number(slice_uint8_t l1, uint32_t l2, uint32_t l3, slice_uint8_t l4, uint32_t l5, uint32_t l6, uint32_t l7, slice_uint8_t l8)
 {
     uint32_t l0;
     type_answer__Answer l9;
@@ -10240,7 +10283,7 @@ static inline uint32_t spargolutta__imports__spg_import_number(slice_uint8_t l1,
     return l0;
 }
 
-static inline type_answer__Answer sheet__write__write_answer(uint32_t l1, slice_uint8_t l2, type_sphere__point__GridPoint l3, type_sphere__point__Grid l4, slice_uint32_t l5, type_sphere__point__GridPoint l6, uint64_t l7)
+static INLINE type_answer__Answer sheet__write__write_answer(uint32_t l1, slice_uint8_t l2, type_sphere__point__GridPoint l3, type_sphere__point__Grid l4, slice_uint32_t l5, type_sphere__point__GridPoint l6, uint64_t l7)
 {
     type_answer__Answer l0;
     uint32_t l8;
@@ -10271,7 +10314,7 @@ static inline type_answer__Answer sheet__write__write_answer(uint32_t l1, slice_
     return l0;
 }
 
-static inline type_answer__Answer geojson__import__answer_coarse(uint32_t l1, slice_uint8_t l2, type_sphere__point__Point l3, slice_uint32_t l4, uint64_t l5)
+static INLINE type_answer__Answer geojson__import__answer_coarse(uint32_t l1, slice_uint8_t l2, type_sphere__point__Point l3, slice_uint32_t l4, uint64_t l5)
 {
     type_answer__Answer l0;
     type_sphere__point__GridPoint l6;
@@ -10325,7 +10368,7 @@ static APART type_answer__Answer geojson__import__import_answer(slice_uint8_t l1
     return l0;
 }
 
-static inline uint64_t spargolutta__imports__spg_import_place(slice_uint8_t l1, uint32_t l2, uint32_t l3, slice_uint8_t l4, uint32_t l5, uint32_t l6, uint32_t l7, uint64_t l8)
+static INLINE uint64_t spargolutta__imports__spg_import_place(slice_uint8_t l1, uint32_t l2, uint32_t l3, slice_uint8_t l4, uint32_t l5, uint32_t l6, uint32_t l7, uint64_t l8)
 {
     uint64_t l0;
     type_answer__Answer l9;
@@ -10337,7 +10380,7 @@ static inline uint64_t spargolutta__imports__spg_import_place(slice_uint8_t l1, 
     return l0;
 }
 
-static inline uint32_t angles__point__point_number(uint32_t l1, uint32_t l2)
+static INLINE uint32_t angles__point__point_number(uint32_t l1, uint32_t l2)
 {
     uint32_t l0;
     bool l3;
@@ -10352,14 +10395,14 @@ static inline uint32_t angles__point__point_number(uint32_t l1, uint32_t l2)
     return l0;
 }
 
-static inline uint32_t spargolutta__imports__spg_point_number(uint32_t l1, uint32_t l2)
+static INLINE uint32_t spargolutta__imports__spg_point_number(uint32_t l1, uint32_t l2)
 {
     uint32_t l0;
     l0 = angles__point__point_number(l1, l2);
     return l0;
 }
 
-static inline type_angles__point__GridNumbers angles__point__point_of(uint32_t l1, uint32_t l2)
+static INLINE type_angles__point__GridNumbers angles__point__point_of(uint32_t l1, uint32_t l2)
 {
     type_angles__point__GridNumbers l0;
     type_angles__point__Position l3;
@@ -10368,7 +10411,7 @@ static inline type_angles__point__GridNumbers angles__point__point_of(uint32_t l
     return l0;
 }
 
-static inline uint32_t spargolutta__imports__spg_point_x(uint32_t l1, uint32_t l2)
+static INLINE uint32_t spargolutta__imports__spg_point_x(uint32_t l1, uint32_t l2)
 {
     uint32_t l0;
     type_angles__point__GridNumbers l3;
@@ -10377,7 +10420,7 @@ static inline uint32_t spargolutta__imports__spg_point_x(uint32_t l1, uint32_t l
     return l0;
 }
 
-static inline uint32_t spargolutta__imports__spg_point_y(uint32_t l1, uint32_t l2)
+static INLINE uint32_t spargolutta__imports__spg_point_y(uint32_t l1, uint32_t l2)
 {
     uint32_t l0;
     type_angles__point__GridNumbers l3;
@@ -10386,7 +10429,7 @@ static inline uint32_t spargolutta__imports__spg_point_y(uint32_t l1, uint32_t l
     return l0;
 }
 
-static inline uint32_t spargolutta__imports__spg_point_z(uint32_t l1, uint32_t l2)
+static INLINE uint32_t spargolutta__imports__spg_point_z(uint32_t l1, uint32_t l2)
 {
     uint32_t l0;
     type_angles__point__GridNumbers l3;
@@ -10395,7 +10438,7 @@ static inline uint32_t spargolutta__imports__spg_point_z(uint32_t l1, uint32_t l
     return l0;
 }
 
-static inline type_sphere__point__Grid spargolutta__writing__point_grid(uint32_t l1)
+static INLINE type_sphere__point__Grid spargolutta__writing__point_grid(uint32_t l1)
 {
     type_sphere__point__Grid l0;
     bool l2;
@@ -10408,7 +10451,7 @@ static inline type_sphere__point__Grid spargolutta__writing__point_grid(uint32_t
     return l0;
 }
 
-static inline type_sphere__point__GridPoint spargolutta__writing__placed(uint32_t l1, type_sphere__point__Point l2)
+static INLINE type_sphere__point__GridPoint spargolutta__writing__placed(uint32_t l1, type_sphere__point__Point l2)
 {
     type_sphere__point__GridPoint l0;
     type_sphere__point__Grid l3;
@@ -10417,7 +10460,7 @@ static inline type_sphere__point__GridPoint spargolutta__writing__placed(uint32_
     return l0;
 }
 
-static inline uint64_t spargolutta__writing__list_size(uint64_t l1)
+static INLINE uint64_t spargolutta__writing__list_size(uint64_t l1)
 {
     uint64_t l0;
     uint64_t l2;
@@ -10471,7 +10514,7 @@ static APART type_answer__Answer spargolutta__writing__write_list(uint32_t l1, u
     return l0;
 }
 
-static inline uint32_t spargolutta__writing__spg_write_number(uint32_t l1, uint32_t l2, slice_uint8_t l3, uint32_t l4, uint32_t l5, uint32_t l6, uint32_t l7, uint32_t l8, uint32_t l9, slice_uint8_t l10, uint32_t l11, slice_uint8_t l12)
+static INLINE uint32_t spargolutta__writing__spg_write_number(uint32_t l1, uint32_t l2, slice_uint8_t l3, uint32_t l4, uint32_t l5, uint32_t l6, uint32_t l7, uint32_t l8, uint32_t l9, slice_uint8_t l10, uint32_t l11, slice_uint8_t l12)
 {
     uint32_t l0;
     type_sphere__point__Point l13;
@@ -10517,7 +10560,7 @@ static APART type_answer__Answer spargolutta__writing__answer_list(uint32_t l1, 
     return l0;
 }
 
-static inline uint64_t spargolutta__writing__spg_write_place(uint32_t l1, uint32_t l2, slice_uint8_t l3, uint32_t l4, uint32_t l5, uint32_t l6, uint32_t l7, uint32_t l8, uint32_t l9, slice_uint8_t l10, uint32_t l11, uint64_t l12)
+static INLINE uint64_t spargolutta__writing__spg_write_place(uint32_t l1, uint32_t l2, slice_uint8_t l3, uint32_t l4, uint32_t l5, uint32_t l6, uint32_t l7, uint32_t l8, uint32_t l9, slice_uint8_t l10, uint32_t l11, uint64_t l12)
 {
     uint64_t l0;
     type_sphere__point__Point l13;
@@ -10531,7 +10574,7 @@ static inline uint64_t spargolutta__writing__spg_write_place(uint32_t l1, uint32
     return l0;
 }
 
-static inline uint32_t spargolutta__reading__spg_sheet_number(slice_uint8_t l1)
+static INLINE uint32_t spargolutta__reading__spg_sheet_number(slice_uint8_t l1)
 {
     uint32_t l0;
     type_sheet__read__Sheet l2;
@@ -10542,7 +10585,7 @@ static inline uint32_t spargolutta__reading__spg_sheet_number(slice_uint8_t l1)
     return l0;
 }
 
-static inline uint64_t spargolutta__reading__spg_sheet_place(slice_uint8_t l1)
+static INLINE uint64_t spargolutta__reading__spg_sheet_place(slice_uint8_t l1)
 {
     uint64_t l0;
     type_sheet__read__Sheet l2;
@@ -10553,7 +10596,7 @@ static inline uint64_t spargolutta__reading__spg_sheet_place(slice_uint8_t l1)
     return l0;
 }
 
-static inline uint32_t spargolutta__reading__spg_sheet_zone(slice_uint8_t l1)
+static INLINE uint32_t spargolutta__reading__spg_sheet_zone(slice_uint8_t l1)
 {
     uint32_t l0;
     type_sheet__read__Sheet l2;
@@ -10562,7 +10605,7 @@ static inline uint32_t spargolutta__reading__spg_sheet_zone(slice_uint8_t l1)
     return l0;
 }
 
-static inline uint32_t spargolutta__reading__spg_sheet_charset(slice_uint8_t l1)
+static INLINE uint32_t spargolutta__reading__spg_sheet_charset(slice_uint8_t l1)
 {
     uint32_t l0;
     type_sheet__read__Sheet l2;
@@ -10571,7 +10614,7 @@ static inline uint32_t spargolutta__reading__spg_sheet_charset(slice_uint8_t l1)
     return l0;
 }
 
-static inline uint64_t spargolutta__reading__spg_sheet_name_place(slice_uint8_t l1)
+static INLINE uint64_t spargolutta__reading__spg_sheet_name_place(slice_uint8_t l1)
 {
     uint64_t l0;
     type_sheet__read__Sheet l2;
@@ -10580,7 +10623,7 @@ static inline uint64_t spargolutta__reading__spg_sheet_name_place(slice_uint8_t 
     return l0;
 }
 
-static inline uint64_t spargolutta__reading__spg_sheet_name_length(slice_uint8_t l1)
+static INLINE uint64_t spargolutta__reading__spg_sheet_name_length(slice_uint8_t l1)
 {
     uint64_t l0;
     type_sheet__read__Sheet l2;
@@ -10589,14 +10632,14 @@ static inline uint64_t spargolutta__reading__spg_sheet_name_length(slice_uint8_t
     return l0;
 }
 
-static inline uint32_t spargolutta__reading__narrow(uint64_t l1)
+static INLINE uint32_t spargolutta__reading__narrow(uint64_t l1)
 {
     uint32_t l0;
     l0 = (uint32_t)l1;
     return l0;
 }
 
-static inline type_angles__point__GridNumbers spargolutta__reading__numbers(type_sphere__point__Point l1)
+static INLINE type_angles__point__GridNumbers spargolutta__reading__numbers(type_sphere__point__Point l1)
 {
     type_angles__point__GridNumbers l0;
     uint32_t l2;
@@ -10609,7 +10652,7 @@ static inline type_angles__point__GridNumbers spargolutta__reading__numbers(type
     return l0;
 }
 
-static inline type_angles__point__GridNumbers spargolutta__reading__known(slice_uint8_t l1)
+static INLINE type_angles__point__GridNumbers spargolutta__reading__known(slice_uint8_t l1)
 {
     type_angles__point__GridNumbers l0;
     type_sheet__read__Sheet l2;
@@ -10620,7 +10663,7 @@ static inline type_angles__point__GridNumbers spargolutta__reading__known(slice_
     return l0;
 }
 
-static inline uint32_t spargolutta__reading__spg_sheet_known_x(slice_uint8_t l1)
+static INLINE uint32_t spargolutta__reading__spg_sheet_known_x(slice_uint8_t l1)
 {
     uint32_t l0;
     type_angles__point__GridNumbers l2;
@@ -10629,7 +10672,7 @@ static inline uint32_t spargolutta__reading__spg_sheet_known_x(slice_uint8_t l1)
     return l0;
 }
 
-static inline uint32_t spargolutta__reading__spg_sheet_known_y(slice_uint8_t l1)
+static INLINE uint32_t spargolutta__reading__spg_sheet_known_y(slice_uint8_t l1)
 {
     uint32_t l0;
     type_angles__point__GridNumbers l2;
@@ -10638,7 +10681,7 @@ static inline uint32_t spargolutta__reading__spg_sheet_known_y(slice_uint8_t l1)
     return l0;
 }
 
-static inline uint32_t spargolutta__reading__spg_sheet_known_z(slice_uint8_t l1)
+static INLINE uint32_t spargolutta__reading__spg_sheet_known_z(slice_uint8_t l1)
 {
     uint32_t l0;
     type_angles__point__GridNumbers l2;
@@ -10647,7 +10690,7 @@ static inline uint32_t spargolutta__reading__spg_sheet_known_z(slice_uint8_t l1)
     return l0;
 }
 
-static inline type_angles__point__GridNumbers spargolutta__reading__second(slice_uint8_t l1)
+static INLINE type_angles__point__GridNumbers spargolutta__reading__second(slice_uint8_t l1)
 {
     type_angles__point__GridNumbers l0;
     type_sheet__read__Sheet l2;
@@ -10658,7 +10701,7 @@ static inline type_angles__point__GridNumbers spargolutta__reading__second(slice
     return l0;
 }
 
-static inline uint32_t spargolutta__reading__spg_sheet_second_x(slice_uint8_t l1)
+static INLINE uint32_t spargolutta__reading__spg_sheet_second_x(slice_uint8_t l1)
 {
     uint32_t l0;
     type_angles__point__GridNumbers l2;
@@ -10667,7 +10710,7 @@ static inline uint32_t spargolutta__reading__spg_sheet_second_x(slice_uint8_t l1
     return l0;
 }
 
-static inline uint32_t spargolutta__reading__spg_sheet_second_y(slice_uint8_t l1)
+static INLINE uint32_t spargolutta__reading__spg_sheet_second_y(slice_uint8_t l1)
 {
     uint32_t l0;
     type_angles__point__GridNumbers l2;
@@ -10676,7 +10719,7 @@ static inline uint32_t spargolutta__reading__spg_sheet_second_y(slice_uint8_t l1
     return l0;
 }
 
-static inline uint32_t spargolutta__reading__spg_sheet_second_z(slice_uint8_t l1)
+static INLINE uint32_t spargolutta__reading__spg_sheet_second_z(slice_uint8_t l1)
 {
     uint32_t l0;
     type_angles__point__GridNumbers l2;
@@ -10685,7 +10728,7 @@ static inline uint32_t spargolutta__reading__spg_sheet_second_z(slice_uint8_t l1
     return l0;
 }
 
-static inline uint32_t spargolutta__reading__spg_sheet_grid(slice_uint8_t l1)
+static INLINE uint32_t spargolutta__reading__spg_sheet_grid(slice_uint8_t l1)
 {
     uint32_t l0;
     type_sheet__read__Sheet l2;
@@ -10696,7 +10739,7 @@ static inline uint32_t spargolutta__reading__spg_sheet_grid(slice_uint8_t l1)
     return l0;
 }
 
-static inline uint64_t spargolutta__reading__spg_sheet_vertices(slice_uint8_t l1)
+static INLINE uint64_t spargolutta__reading__spg_sheet_vertices(slice_uint8_t l1)
 {
     uint64_t l0;
     type_sheet__read__Sheet l2;
@@ -10705,7 +10748,7 @@ static inline uint64_t spargolutta__reading__spg_sheet_vertices(slice_uint8_t l1
     return l0;
 }
 
-static inline uint64_t spargolutta__filling__vertex_bytes(slice_uint8_t l1)
+static INLINE uint64_t spargolutta__filling__vertex_bytes(slice_uint8_t l1)
 {
     uint64_t l0;
     uint32_t l2;
@@ -10718,7 +10761,7 @@ static inline uint64_t spargolutta__filling__vertex_bytes(slice_uint8_t l1)
     return l0;
 }
 
-static inline type_answer__Check spargolutta__filling__fill_check(slice_uint8_t l1, uint64_t l2)
+static INLINE type_answer__Check spargolutta__filling__fill_check(slice_uint8_t l1, uint64_t l2)
 {
     type_answer__Check l0;
     uint32_t l3;
@@ -10749,7 +10792,7 @@ static inline type_answer__Check spargolutta__filling__fill_check(slice_uint8_t 
     return l0;
 }
 
-static inline uint32_t spargolutta__filling__spg_vertices_number(slice_uint8_t l1, slice_uint8_t l2)
+static INLINE uint32_t spargolutta__filling__spg_vertices_number(slice_uint8_t l1, slice_uint8_t l2)
 {
     uint32_t l0;
     uint32_t l3;
@@ -10790,7 +10833,7 @@ static inline uint32_t spargolutta__filling__spg_vertices_number(slice_uint8_t l
     return l0;
 }
 
-static inline uint64_t spargolutta__filling__spg_vertices_place(slice_uint8_t l1, uint64_t l2)
+static INLINE uint64_t spargolutta__filling__spg_vertices_place(slice_uint8_t l1, uint64_t l2)
 {
     uint64_t l0;
     uint64_t l3;
@@ -10812,7 +10855,7 @@ static inline uint64_t spargolutta__filling__spg_vertices_place(slice_uint8_t l1
     return l0;
 }
 
-static inline uint64_t spargolutta__meanings__text_start(uint32_t l1)
+static INLINE uint64_t spargolutta__meanings__text_start(uint32_t l1)
 {
     uint64_t l0;
     array_uint64_t_38 l2;
@@ -10823,7 +10866,7 @@ static inline uint64_t spargolutta__meanings__text_start(uint32_t l1)
     uint64_t l7;
     l2 = (array_uint64_t_38){.e[0] = UINT64_C(0), .e[1] = UINT64_C(4), .e[2] = UINT64_C(10), .e[3] = UINT64_C(17), .e[4] = UINT64_C(769), .e[5] = UINT64_C(769), .e[6] = UINT64_C(769), .e[7] = UINT64_C(769), .e[8] = UINT64_C(769), .e[9] = UINT64_C(769), .e[10] = UINT64_C(25), .e[11] = UINT64_C(53), .e[12] = UINT64_C(75), .e[13] = UINT64_C(90), .e[14] = UINT64_C(123), .e[15] = UINT64_C(143), .e[16] = UINT64_C(182), .e[17] = UINT64_C(223), .e[18] = UINT64_C(256), .e[19] = UINT64_C(286), .e[20] = UINT64_C(319), .e[21] = UINT64_C(334), .e[22] = UINT64_C(356), .e[23] = UINT64_C(387), .e[24] = UINT64_C(408), .e[25] = UINT64_C(434), .e[26] = UINT64_C(464), .e[27] = UINT64_C(489), .e[28] = UINT64_C(512), .e[29] = UINT64_C(769), .e[30] = UINT64_C(533), .e[31] = UINT64_C(581), .e[32] = UINT64_C(627), .e[33] = UINT64_C(666), .e[34] = UINT64_C(703), .e[35] = UINT64_C(720), .e[36] = UINT64_C(743), .e[37] = UINT64_C(769)};
     l3 = spargolutta__meanings__index(l1);
-    l4 = (l3 * UINT64_C(8));
+    l4 = (l3 << 3);
     l5 = (unsigned char *)(void *)&l2;
     l6 = ((unsigned char *)(void *)l5 + (size_t)l4);
     l7 = (*(uint64_t *)(void *)l6);
@@ -10831,7 +10874,7 @@ static inline uint64_t spargolutta__meanings__text_start(uint32_t l1)
     return l0;
 }
 
-static inline uint64_t spargolutta__meanings__text_size(uint32_t l1)
+static INLINE uint64_t spargolutta__meanings__text_size(uint32_t l1)
 {
     uint64_t l0;
     array_uint64_t_38 l2;
@@ -10842,7 +10885,7 @@ static inline uint64_t spargolutta__meanings__text_size(uint32_t l1)
     uint64_t l7;
     l2 = (array_uint64_t_38){.e[0] = UINT64_C(4), .e[1] = UINT64_C(6), .e[2] = UINT64_C(7), .e[3] = UINT64_C(8), .e[4] = UINT64_C(14), .e[5] = UINT64_C(14), .e[6] = UINT64_C(14), .e[7] = UINT64_C(14), .e[8] = UINT64_C(14), .e[9] = UINT64_C(14), .e[10] = UINT64_C(28), .e[11] = UINT64_C(22), .e[12] = UINT64_C(15), .e[13] = UINT64_C(33), .e[14] = UINT64_C(20), .e[15] = UINT64_C(39), .e[16] = UINT64_C(41), .e[17] = UINT64_C(33), .e[18] = UINT64_C(30), .e[19] = UINT64_C(33), .e[20] = UINT64_C(15), .e[21] = UINT64_C(22), .e[22] = UINT64_C(31), .e[23] = UINT64_C(21), .e[24] = UINT64_C(26), .e[25] = UINT64_C(30), .e[26] = UINT64_C(25), .e[27] = UINT64_C(23), .e[28] = UINT64_C(21), .e[29] = UINT64_C(14), .e[30] = UINT64_C(48), .e[31] = UINT64_C(46), .e[32] = UINT64_C(39), .e[33] = UINT64_C(37), .e[34] = UINT64_C(17), .e[35] = UINT64_C(23), .e[36] = UINT64_C(26), .e[37] = UINT64_C(14)};
     l3 = spargolutta__meanings__index(l1);
-    l4 = (l3 * UINT64_C(8));
+    l4 = (l3 << 3);
     l5 = (unsigned char *)(void *)&l2;
     l6 = ((unsigned char *)(void *)l5 + (size_t)l4);
     l7 = (*(uint64_t *)(void *)l6);
@@ -10861,7 +10904,7 @@ static APART array_uint8_t_783 spargolutta__meanings__letters(void)
     return l0;
 }
 
-static inline uint64_t spargolutta__meanings__put_front(slice_uint8_t l1, slice_uint8_t l2)
+static INLINE uint64_t spargolutta__meanings__put_front(slice_uint8_t l1, slice_uint8_t l2)
 {
     uint64_t l0;
     uint64_t l3;

@@ -10,7 +10,7 @@
 #include "inputs.h"
 
 #define NUMBERS 64
-#define LENT_MOST (SPG_SHEET_MOST + 4096)
+#define LENT_MOST (2 * SPG_SHEET_MOST)
 #define DRAWINGS 6
 
 static uint64_t numbers[NUMBERS];

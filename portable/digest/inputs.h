@@ -38,13 +38,14 @@ int32_t make_latitude(void);
 
 /*
  * The arguments of a round, by the names of the header's parameters: rows.py writes each call with them. X and X_len are
- * what a call reads, X_room is the length of a buffer X that it writes to. A call with a parameter that is not here does
- * not compile: give it a member, and make_inputs or make_numbers a line.
+ * what a call reads, X_room is the length of a buffer X that it writes to, and room that of any other. A call with a
+ * parameter that is not here is refused by rows.py: give it a member, and make_inputs or make_numbers a line.
  */
 struct inputs {
-    const uint8_t *sheet, *left, *right, *book, *queries, *candidates, *vertices, *text, *name;
-    size_t sheet_len, left_len, right_len, book_len, queries_len, candidates_len, vertices_len, text_len, name_len;
-    size_t sheet_room, results_room, vertices_room, text_room;
+    const uint8_t *sheet, *left, *right, *book, *queries, *candidates, *vertices, *text, *name, *degrees;
+    size_t sheet_len, left_len, right_len, book_len, queries_len, candidates_len, vertices_len, text_len, name_len,
+        degrees_len;
+    size_t sheet_room, results_room, vertices_room, text_room, points_room, room;
     uint32_t zone, charset, grid;
     int32_t known_x, known_y, known_z, second_x, second_y, second_z;
     size_t at;

@@ -3,6 +3,7 @@
 
 static struct zone left, right;
 static uint8_t book[400000], queries[3000 * SPG_POINT_SIZE], candidates[200 * SPG_POINT_SIZE], text[40000], name[128];
+static uint8_t degrees[1000 * 8];
 
 static uint8_t *put_words(uint8_t *to, const char *words)
 {
@@ -112,12 +113,25 @@ static const uint8_t *lent(const uint8_t *bytes, size_t length)
     return length == 0 && one_in(2) ? NULL : bytes;
 }
 
+static void make_degrees(struct inputs *in)
+{
+    size_t count = one_in(9) ? below(1000) : below(20);
+    for (size_t i = 0; i < count; i++) {
+        spg_put_number(degrees + 8 * i, (uint32_t)make_longitude());
+        spg_put_number(degrees + 8 * i + 4, (uint32_t)make_latitude());
+    }
+    in->degrees_len = 8 * count - (count > 0 && one_in(20) ? below(8) : 0);
+    in->degrees = lent(degrees, in->degrees_len);
+    in->points_room = room_for(SPG_POINT_SIZE * count);
+}
+
 static void make_lists(struct inputs *in)
 {
     size_t count = !one_in(3) ? below(20) : one_in(8) ? 500 + below(2400) : 128 + below(60);
+    make_degrees(in);
     in->queries_len = put_points(queries, count, &left) + (one_in(30) ? below(12) : 0);
     in->queries = lent(queries, in->queries_len);
-    in->results_room = room_for(SPG_POINT_SIZE * count);
+    in->results_room = room_for((one_in(3) ? 2 : 1) * SPG_POINT_SIZE * count);
     in->candidates_len = put_points(candidates, count % 200, &left) + one_in(30);
     in->candidates = lent(candidates, in->candidates_len);
     in->vertices = left.vertices;
@@ -140,6 +154,7 @@ static void make_parts(struct inputs *in)
     in->text_len = make_text(text);
     in->text = lent(text, in->text_len);
     in->text_room = below(80);
+    in->room = below(200);
 }
 
 void make_inputs(struct inputs *in)

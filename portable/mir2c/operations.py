@@ -1,5 +1,7 @@
 """MIR's operations on values (op2Val and op1Val of logic/Mir/Val.antt). What leaves an operation undefined, a sum that
 does not fit or a divisor of zero, is proved not to happen: C's unsigned numbers need not be defined as MIR's there."""
+import re
+
 from c_types import width
 from places import Typed, same
 from rules import apply, refuse, rule
@@ -81,6 +83,11 @@ def sub(_, x, y, sign):
 
 @rule('op2', 'Mul')
 def mul(_, x, y, sign):
+    """A product with a constant power of two is a shift: by that gcc knows big-endian bytes when it sees them."""
+    factor = re.fullmatch(r'UINT(32|64)_C\((\d+)\)', y.text)
+    if factor and int(factor[2]).bit_count() == 1:
+        both(x, y)
+        return Typed(f'({x.text} << {int(factor[2]).bit_length() - 1})', x.type)
     return wrapped('*', x, y)
 
 
@@ -136,10 +143,11 @@ def le(_, x, y, sign):
 
 
 @rule('op2', 'Offset')
-def offset(_, x, y, __):
-    """A pointer moved on by bytes: MIR has multiplied by the element's size already."""
+def offset(function, x, y, __):
+    """A pointer moved on by bytes: MIR has multiplied by the element's size already. The next byte is reached from the
+    pointer to the one before: by that gcc knows neighbours."""
     same(y.type, {'Int': 64})
-    return Typed(f'((unsigned char *)(void *){x.text} + (size_t){y.text})', 'Ptr')
+    return Typed(function.moved(x.text, y.text), 'Ptr')
 
 
 @rule('op2', 'FloatAdd')
@@ -157,9 +165,19 @@ def float_mul(_, x, y, __):
     return floats('*', x, y, FLOAT)
 
 
+@rule('op2', 'FloatDiv')
+def float_div(_, x, y, __):
+    return floats('/', x, y, FLOAT)
+
+
 @rule('op2', 'FloatLt')
 def float_lt(_, x, y, __):
     return floats('<', x, y, 'Bool')
+
+
+@rule('op2', 'FloatLe')
+def float_le(_, x, y, __):
+    return floats('<=', x, y, 'Bool')
 
 
 def op1(function, node, x):

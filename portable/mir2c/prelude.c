@@ -33,10 +33,16 @@
 #pragma STDC FP_CONTRACT OFF
 #endif
 
+/* Big frames stay apart, and small functions become part of their callers, where size is not what counts. */
 #if defined(__GNUC__)
 #define APART __attribute__((noinline))
 #else
 #define APART
+#endif
+#if defined(__GNUC__) && defined(__OPTIMIZE__) && !defined(__OPTIMIZE_SIZE__) && !defined(__wasm__)
+#define INLINE inline __attribute__((always_inline))
+#else
+#define INLINE inline
 #endif
 
 /* The number that bits mean in two's complement, without what C leaves to the machine; compilers make nothing of it. */

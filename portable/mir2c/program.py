@@ -8,6 +8,8 @@ from c_types import Types
 from functions import Function
 from rules import refuse, split
 
+# A function of fewer assignments and calls than this becomes part of its callers.
+INLINE_MOST = 250
 HERE = os.path.dirname(os.path.abspath(__file__))
 
 
@@ -36,7 +38,7 @@ class Program:
         self.types = Types()
         self.prototypes = exports.prototypes(header)
         self.order, self.declared_first = [], set()
-        self.calls = {}
+        self.calls, self.weights = {}, {}
 
     def visit(self, name, open_):
         """Callees first; one that is still open, a recursion, is declared before."""
@@ -49,9 +51,20 @@ class Program:
                 self.calls[callee] += 1
             self.order.append(name)
 
+    def weigh(self, name):
+        """How many assignments and calls a function has, with those of the callees that become part of it."""
+        own = sum(1 for node in self.functions[name]['body'] if split(node)[0] in ('Assign', 'Call'))
+        within = [self.weights.get(callee, INLINE_MOST) for callee in callees(self.functions[name])]
+        weight = own + sum(weight for weight in within if weight < INLINE_MOST)
+        apart = name in self.declared_first or Function(name, self).is_big()
+        self.weights[name] = INLINE_MOST if apart else weight
+
     def storage(self, function):
-        """Big frames stay apart, so that no call needs more stack than the header says."""
-        return 'static APART' if function.is_big() else 'static inline'
+        """Big frames stay apart, so that no call needs more stack than the header says; small functions become part of
+        their callers, which gcc does too rarely by itself."""
+        if function.is_big():
+            return 'APART '
+        return 'INLINE ' if self.weights[function.name] < INLINE_MOST else ''
 
     def text(self):
         sys.setrecursionlimit(10000)
@@ -59,6 +72,7 @@ class Program:
             self.visit(exports.symbol_of(self, prototype.name), frozenset())
         for name in self.order:
             self.types.learn(self.functions[name]['types'])
+            self.weigh(name)
         heads = [Function(name, self).head() + ';' for name in sorted(self.declared_first)]
         bodies = [line for name in self.order for line in Function(name, self).text()]
         calls = [line for prototype in self.prototypes for line in exports.definition(self, prototype)]

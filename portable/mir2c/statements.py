@@ -14,8 +14,9 @@ def plain(function, to, node):
 
 @rule('rvalue', 'Op2')
 def of_two(function, to, node):
-    x = op2(function, node[0], operand(function, node[1]), operand(function, node[2]))
-    function.put(f'{to.text} = {converted(function, x, to.type)};')
+    a, b = operand(function, node[1]), operand(function, node[2])
+    function.put(f'{to.text} = {converted(function, op2(function, node[0], a, b), to.type)};')
+    function.note(split(node[0])[0], to.text, a.text, b.text)
 
 
 @rule('rvalue', 'Op1')

@@ -25,7 +25,7 @@ def library_as_wasm() -> Optional[bytes]:
     """The library as WebAssembly, where it was built: named by SPARGOLUTTA_WASM, beside this file, or in the tree."""
     named = os.environ.get("SPARGOLUTTA_WASM")
     tree = HERE.parent.parent
-    for path in [Path(named)] if named else [HERE / "spargolutta.wasm", tree / "target" / "page" / "spargolutta.wasm"]:
+    for path in [Path(named)] if named else [HERE / "spargolutta.wasm", tree / "target" / "wasm" / "spargolutta.wasm"]:
         if path.is_file():
             return path.read_bytes()
     return None
