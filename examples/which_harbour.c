@@ -3,9 +3,9 @@
  *
  *     which_harbour BOOK GRID STOPS
  *
- * BOOK is zone sheets joined end to end, up to 1,024 of them. GRID is the grid of the stops, 0 or coarse, 1 or
- * fine: harbours on the other are left out, and a book that has none on it is refused. STOPS is a text with one stop a line: `x y z name`. (A harbour
- * that is refused is told whatever its grid.)
+ * BOOK is zone sheets joined end to end, up to 1,024 of them. GRID is the grid of the stops, 0 or coarse, 1 or fine:
+ * harbours on the other are left out, and a book that has none on it is refused. STOPS is a text with one stop a line:
+ * `x y z name`. (A harbour that is refused is told whatever its grid.)
  *
  * Prints for each stop the zone numbers of the harbours that it is inside of, and of those on whose boundary it is; a
  * stop that is in none has an empty list. What was refused, and why, goes to standard error: the book (then no stop is

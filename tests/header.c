@@ -47,6 +47,7 @@ static void print_macros(void)
     print("most", SPG_VERTICES_MOST, SPG_NAME_MOST, SPG_SHEET_MOST);
     print("charsets", SPG_UTF8, SPG_ISO_8859_7, SPG_WINDOWS_1253);
     print("sheets", SPG_SHEETS_MOST, SPG_PLACE_NONE, SPG_PLACE_CALL);
+    print("result", SPG_BOOK_RESULT_SIZE, 0, 0);
     for (uint32_t number = 0; number < 40; number++)
         if (SPG_IS_REFUSAL(number) != (number != SPG_DONE && number != SPG_INSIDE && number != SPG_OUTSIDE
                                        && number != SPG_BOUNDARY))
@@ -121,6 +122,11 @@ static void print_basin(const uint8_t *from, size_t length, uint32_t grid)
           spg_basin_count(from, length, grid));
 }
 
+static void print_sets(struct spg_sets sets)
+{
+    print("sets", (unsigned long)sets.inside, (unsigned long)sets.boundary, (unsigned long)sets.refused);
+}
+
 static void print_book(const uint8_t *b, size_t n, int32_t x, int32_t y, int32_t z)
 {
     print("book", spg_book_number(b, n, SPG_COARSE, x, y, z), (unsigned long)spg_book_place(b, n, SPG_COARSE, x, y, z),
@@ -128,8 +134,21 @@ static void print_book(const uint8_t *b, size_t n, int32_t x, int32_t y, int32_t
     print("sets", (unsigned long)spg_book_inside(b, n, SPG_COARSE, x, y, z),
           (unsigned long)spg_book_boundary(b, n, SPG_COARSE, x, y, z),
           (unsigned long)spg_book_refused(b, n, SPG_COARSE, x, y, z));
+    struct spg_book_answer whole = spg_book(b, n, SPG_COARSE, x, y, z);
+    print("whole", whole.number, (unsigned long)whole.place, whole.sets.count);
+    print_sets(whole.sets);
     print("step", spg_book_next_number(b, n, 0), (unsigned long)spg_book_next_place(b, n, 0),
           (unsigned long)spg_book_next_count(b, n, 0));
+}
+
+static void print_book_feed(const uint8_t *b, size_t n, const uint8_t *queries, size_t length, uint8_t *results,
+                            size_t room)
+{
+    print("book feed", spg_book_feed_number(b, n, SPG_COARSE, queries, length, results, room),
+          (unsigned long)spg_book_feed_place(b, n, SPG_COARSE, queries, length, room),
+          spg_book_feed_count(b, n, SPG_COARSE, queries, length, room));
+    for (size_t i = 0; SPG_POINT_SIZE * i < length; i++)
+        print_sets(spg_book_result_at(results, i));
 }
 
 static void print_compared(const uint8_t *l, size_t l_len, const uint8_t *r, size_t r_len)
@@ -161,6 +180,7 @@ static void print_octant(void)
 {
     static const int32_t queries[4][3] = {{3, 2, 1}, {1, 1, 0}, {1, 1, -1}, {-1, -1, -1}};
     static uint8_t feed[4 * SPG_POINT_SIZE], results[4 * SPG_POINT_SIZE], again[3 * SPG_POINT_SIZE], to[200];
+    static uint8_t sets[4 * SPG_BOOK_RESULT_SIZE];
     print_parts(sheet, sheet_len);
     print_vertices(sheet, sheet_len, again, sizeof again);
     print_bytes("bytes", again, sizeof again);
@@ -171,6 +191,7 @@ static void print_octant(void)
         print_book(sheet, sheet_len, q[0], q[1], q[2]);
     }
     print_feed(sheet, sheet_len, feed, sizeof feed, results, sizeof results);
+    print_book_feed(sheet, sheet_len, feed, sizeof feed, sets, sizeof sets);
     print_chosen(sheet, sheet_len, feed, sizeof feed);
     print_basin(vertices, sizeof vertices, SPG_COARSE);
     print_written(name, 1, vertices, sizeof vertices, to, sizeof to);
@@ -194,6 +215,8 @@ static void print_null(void)
     print_chosen(sheet, sheet_len, NULL, 0);
     print_basin(NULL, 0, SPG_COARSE);
     print_book(NULL, 0, 1, 1, 1);
+    print_book_feed(NULL, 0, NULL, 0, NULL, 0);
+    print_book_feed(sheet, sheet_len, NULL, 0, NULL, 0);
     print_compared(NULL, 0, NULL, 0);
     print_compared(sheet, sheet_len, NULL, 0);
     print_imported(NULL, 0, NULL, 0, NULL, 0);

@@ -77,6 +77,21 @@ static void feed_both(struct judged *j)
     require(one.number == spg_result_at(j->results.at, 0).number, "two answers");
 }
 
+/* The sheet is a book, on the grid that it is on. */
+static void feed_book(struct judged *j)
+{
+    static uint8_t sets[ROOM];
+    struct bytes b = j->sheet, q = j->queries;
+    uint32_t grid = spg_sheet_grid(b.at, b.length);
+    struct spg_book_answer one = spg_book(b.at, b.length, grid, spg_coordinate_at(q.at, 0), spg_coordinate_at(q.at, 1),
+                                          spg_coordinate_at(q.at, 2));
+    j->place = spg_book_feed_place(b.at, b.length, grid, q.at, q.length, sizeof sets);
+    j->count = spg_book_feed_count(b.at, b.length, grid, q.at, q.length, sizeof sets);
+    j->number = spg_book_feed_number(b.at, b.length, grid, q.at, q.length, sets, sizeof sets);
+    require(j->number == SPG_DONE, "the feed to a book is refused");
+    require(one.sets.inside == spg_book_result_at(sets, 0).inside, "two answers");
+}
+
 static void texts(struct judged *j)
 {
     uint8_t text[4];
@@ -109,6 +124,7 @@ int main(void)
         {.name = "compare", .call = compare_itself},
         {.name = "book, coarse", .call = coarse_book},
         {.name = "book, fine", .call = fine_book},
+        {.name = "book feed", .call = feed_book},
         {.name = "vertices", .call = fill},
         {.name = "basin, whole", .call = whole_basin},
         {.name = "basin", .call = basin},

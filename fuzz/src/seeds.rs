@@ -34,6 +34,7 @@ impl Seeds {
             self.add("book", &book, &[], 0, &[grid, x, y, z]);
         }
         self.add("feed", &bytes, &asked, asked.len(), &[]);
+        self.add("book_feed", &book, &asked, 2 * asked.len(), &[grid]);
         self.add("choose", &bytes, &asked, 0, &[]);
         self.add("basin", &vertices, &[], 0, &[grid]);
         self.add("book_next", &book, &[], 0, &[bytes.len() as i32]);

@@ -1,7 +1,8 @@
 //! Document 02's P10: books against the reference and against the single calls on their sheets. `damaged` has books cut
-//! and damaged at random, and the steps of a reader over them.
+//! and damaged at random, and the steps of a reader over them; `feeds` has feeds to a book.
 
 mod damaged;
+mod feeds;
 
 use crate::compare::Tally;
 use crate::outlines::{sheet_and_queries, Numbers::Within, Source};

@@ -75,12 +75,13 @@ macro_rules! reading {
     };
 }
 
-pub const CALLS: [Call; 13] = [
+pub const CALLS: [Call; 14] = [
     reading!("judge", |lent| single(lent.first, lent.point(0))),
     Call { name: "feed", library: feed, reference: feed_by_reference },
     reading!("choose", |lent| choose(lent.first, lent.second)),
     reading!("basin", |lent| basin(lent.first, lent.words[0])),
     reading!("book", |lent| book::which(lent.first, lent.words[0], lent.point(1))),
+    Call { name: "book_feed", library: book_feed, reference: book_feed_by_reference },
     reading!("book_next", |lent| book::step(lent.first, lent.place())),
     reading!("compare", |lent| compare(lent.first, lent.second)),
     Call { name: "import", library: import, reference: import_by_reference },
@@ -112,6 +113,14 @@ fn feed(lent: &Lent, results: &mut [u8]) -> Told {
 
 fn feed_by_reference(lent: &Lent, results: &mut [u8]) -> Told {
     put(reference::feed(lent.first, lent.second, results), results)
+}
+
+fn book_feed(lent: &Lent, results: &mut [u8]) -> Told {
+    library::book::feed(lent.first, lent.words[0], lent.second, results).told()
+}
+
+fn book_feed_by_reference(lent: &Lent, results: &mut [u8]) -> Told {
+    put(reference::book::feed(lent.first, lent.words[0], lent.second, results), results)
 }
 
 fn import(lent: &Lent, sheet: &mut [u8]) -> Told {

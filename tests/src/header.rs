@@ -66,6 +66,8 @@ fn header_attributes() {
         "spg_feed_number(a, 99, a, 12, b, 12);",
         "spg_judge_number(a, 99, 1, 1, 1);",
         "spg_judge(a, 99, 1, 1, 1);",
+        "spg_book_feed_number(a, 99, 0, a, 12, b, 12);",
+        "spg_book(a, 99, 0, 1, 1, 1);",
         "spg_point_x(0, 0);",
         "spg_put_point(NULL, 1, 1, 1);",
         "if (spg_result_at(NULL, 0).number) spg_put_point(b, 1, 1, 1);",

@@ -9,7 +9,7 @@ use crate::sheet::point_bytes;
 use crate::{library, reference, Answer, Point, Which};
 
 /// Books of many sizes: whole, cut anywhere, with bytes changed, with a piece left out or doubled.
-fn damaged_books(random: &mut Random, count: usize) -> Vec<(Vec<u8>, u32, Point)> {
+pub fn damaged_books(random: &mut Random, count: usize) -> Vec<(Vec<u8>, u32, Point)> {
     let any_book = |_| {
         let n = if random.once_in(20) { 60 + random.below(7) } else { random.below(5) };
         let (sheets, asked) = any_sheets(random, n);

@@ -164,6 +164,36 @@ fn guarded_books() {
     compare("book_next", &steps, 6_000, [0, 20, 21]);
 }
 
+/// Queries and result buffers of every length, to good books and cut ones.
+#[test]
+fn guarded_book_feeds() {
+    let random = &mut Random::new(507);
+    let points = points_bytes(&(0..30).map(|_| random.point(2)).collect::<Vec<Point>>());
+    let all = sheets(random, 65);
+    let book = all[..5].concat();
+    let mut cases = vec![];
+    let mut add = |first: &[u8], second: &[u8], room: usize| {
+        for grid in [0, 1] {
+            let (first, second) = (first.to_vec(), second.to_vec());
+            cases.push(Case { first, second, buffer: vec![0xc3; room], words: words(&[grid]) });
+        }
+    };
+    for queries in lengths(&points) {
+        for more in [0, 1, 2, 25] {
+            add(&book, &queries, (2 * queries.len() + more).saturating_sub(1));
+        }
+    }
+    lengths(&book).iter().for_each(|first| add(first, &points[..24], 48));
+    let [coarse, fine] = full();
+    let large = [coarse, octant().bytes(), fine].concat();
+    for first in [all[..64].concat(), all.concat(), vec![], large] {
+        ends(&points).iter().for_each(|queries| add(&first, queries, 2 * queries.len()));
+    }
+    let many = points_bytes(&[[3, 2, 1]; 5_000]);
+    [119_999, 120_000, 120_001].iter().for_each(|&room| add(&book, &many, room));
+    compare("book_feed", &cases, 7_000, [0, 20, 21, 26, 27, 36]);
+}
+
 #[test]
 fn guarded_compare() {
     let random = &mut Random::new(505);
@@ -193,6 +223,7 @@ fn guarded_calls() {
         "choose",
         "basin",
         "book",
+        "book_feed",
         "book_next",
         "compare",
         "import",

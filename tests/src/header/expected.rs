@@ -2,7 +2,7 @@
 
 use crate::imports::{given, point, Given};
 use crate::sheet::{octant, octant_pair, point_bytes, points_bytes, Grid, OCTANT};
-use crate::{reference, Answer, Comparison, Point, Single};
+use crate::{reference, Answer, Comparison, Point, Single, Which};
 
 const TEXT: &[u8] = br#"{"type":"Polygon","coordinates":[[[0,0],[1,0],[1,1],[0,0]]]}"#;
 const NOTHING: Answer = Answer { number: 0, place: 0, count: 0 };
@@ -52,11 +52,23 @@ impl Lines {
         self.put("sum, looked", [sum.into(), looked.into(), 0]);
     }
 
+    fn sets(&mut self, which: Which) {
+        self.put("sets", [which.inside, which.boundary, which.refused].map(|set| set as i64));
+    }
+
+    /// The single calls, the whole answer by a feed of one, and a step.
     fn book(&mut self, book: &[u8], query: Point) {
         let which = reference::book::which(book, 0, query);
-        self.answer("book", which.answer);
-        self.put("sets", [which.inside, which.boundary, which.refused].map(|set| set as i64));
+        for what in ["book", "whole"] {
+            self.answer(what, which.answer);
+            self.sets(which);
+        }
         self.answer("step", reference::book::step(book, 0));
+    }
+
+    fn book_feed(&mut self, book: &[u8], queries: &[Point]) {
+        self.answer("book feed", NOTHING);
+        queries.iter().for_each(|query| self.sets(reference::book::which(book, 0, *query)));
     }
 
     fn feed(&mut self, sheet: &[u8], queries: &[Point]) {
@@ -105,6 +117,7 @@ pub fn octant_lines() -> String {
     lines.put("most", [4_096, 120, 49_319]);
     lines.put("charsets", [1, 2, 3]);
     lines.put("sheets", [64, 0, 6]);
+    lines.put("result", [24, 0, 0]);
     lines.helpers();
     lines.written_octant();
     let sheet = octant().bytes();
@@ -121,6 +134,7 @@ pub fn octant_lines() -> String {
         lines.book(&sheet, query);
     }
     lines.feed(&sheet, &queries);
+    lines.book_feed(&sheet, &queries);
     lines.answer("choose", reference::choose(&sheet, &points_bytes(&queries)));
     lines.answer("basin", reference::basin(&points_bytes(&OCTANT), 0));
     let fine = octant_pair().on(Grid::Fine).bytes();
@@ -150,6 +164,8 @@ pub fn null_lines() -> String {
     lines.answer("choose", reference::choose(&sheet, &[]));
     lines.answer("basin", reference::basin(&[], 0));
     lines.book(&[], [1, 1, 1]);
+    lines.book_feed(&[], &[]);
+    lines.book_feed(&sheet, &[]);
     lines.compared(&[], &[]);
     lines.compared(&sheet, &[]);
     lines.imported(&[], &[], 0);

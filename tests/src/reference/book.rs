@@ -60,3 +60,23 @@ pub fn which(book: &[u8], grid: u32, query: Point) -> Which {
     }
     which
 }
+
+/// A feed to a book: its own answer, and the result buffer as the call leaves it. A result is the three sets.
+pub fn feed(book: &[u8], grid: u32, queries: &[u8], buffer: &[u8]) -> (Answer, Vec<u8>) {
+    let needed = 24 * (queries.len() / 12);
+    let refusal = match which(book, grid, [0; 3]).answer {
+        _ if queries.len() % 12 != 0 => Some(answer(26, 0, 0)),
+        _ if buffer.len() < needed => Some(answer(27, needed, 0)),
+        Answer { number: 0, .. } => None,
+        refusal => Some(refusal),
+    };
+    if let Some(refusal) = refusal {
+        return (refusal, buffer.to_vec());
+    }
+    let number = |b: &[u8]| i32::from_be_bytes([b[0], b[1], b[2], b[3]]);
+    let sets = queries.chunks(12).flat_map(|q| {
+        let Which { inside, boundary, refused, .. } = which(book, grid, [0, 4, 8].map(|k| number(&q[k..])));
+        [inside, boundary, refused].map(u64::to_be_bytes).concat()
+    });
+    (answer(0, 0, 0), sets.chain(buffer[needed..].iter().copied()).collect())
+}
