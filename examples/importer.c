@@ -66,7 +66,7 @@ static bool print_stop(size_t i, const char *store)
     struct spg_answer answer = spg_result_at(feed.results, i);
     const uint8_t *query = feed.queries + SPG_POINT_SIZE * i;
     if (feed.names[i] == NULL) {
-        fprintf(stderr, "refused: '%s' is not 'x y z name'\n", feed.lines[i]);
+        print_no_stop(&feed, i);
         return false;
     }
     if (answer.number == SPG_QUERY_OPPOSITE && (has_second || (store != NULL && add_second(store))))

@@ -2,7 +2,7 @@
  * stops.h: the stops of a list, for importer.c and which_harbour.c.
  *
  * A list is a text with one stop a line, its numbers on the grid and its name: `x y z name`. It is read feed by feed,
- * so that a list of any length needs no more memory than one feed.
+ * so that a list of any length needs no more memory than one feed. A line that is too long is no stop, all of it.
  */
 #ifndef STOPS_H
 #define STOPS_H
@@ -13,10 +13,12 @@
 #include <string.h>
 
 #define FEED_MOST 4096 /* stops in a feed */
+#define LINE_MOST 1024 /* bytes of a line, with its end and a zero */
 
 struct feed {
     size_t n; /* how many stops it has */
-    char lines[FEED_MOST][1024];
+    char lines[FEED_MOST][LINE_MOST];
+    bool cut[FEED_MOST];          /* the line is longer than that */
     const char *names[FEED_MOST]; /* in the line; NULL if that is not 'x y z name', and then the query is 0, 0, 0 */
     uint8_t queries[SPG_POINT_SIZE * FEED_MOST];
     uint8_t results[SPG_POINT_SIZE * FEED_MOST];
@@ -50,13 +52,42 @@ static const char *read_stop(char *line, uint8_t *query)
     return line + strspn(line, " \t");
 }
 
+/* Reads a line, past what there is no room for; whether there was one. */
+static bool read_line(FILE *file, char *line, bool *cut)
+{
+    *cut = false;
+    if (fgets(line, LINE_MOST, file) == NULL)
+        return false;
+    if (strlen(line) == LINE_MOST - 1 && line[LINE_MOST - 2] != '\n') {
+        int c = getc(file);
+        *cut = c != EOF && c != '\n';
+        while (c != EOF && c != '\n')
+            c = getc(file);
+    }
+    return true;
+}
+
 /* Reads the next stops, as many as a feed takes. */
 static void read_feed(FILE *file, struct feed *feed)
 {
     size_t n = 0;
-    for (; n < FEED_MOST && fgets(feed->lines[n], sizeof feed->lines[n], file) != NULL; n++)
+    for (; n < FEED_MOST && read_line(file, feed->lines[n], &feed->cut[n]); n++) {
         feed->names[n] = read_stop(feed->lines[n], feed->queries + SPG_POINT_SIZE * n);
+        if (feed->cut[n]) {
+            feed->names[n] = NULL;
+            spg_put_point(feed->queries + SPG_POINT_SIZE * n, 0, 0, 0);
+        }
+    }
     feed->n = n;
+}
+
+/* Says that a line is no stop. */
+static void print_no_stop(const struct feed *feed, size_t i)
+{
+    if (feed->cut[i])
+        fprintf(stderr, "refused: a line of over %d bytes: '%.40s'\n", LINE_MOST - 1, feed->lines[i]);
+    else
+        fprintf(stderr, "refused: '%s' is not 'x y z name'\n", feed->lines[i]);
 }
 
 /* Judges the feed by a sheet, its results into the feed: 0, or why it was refused. */

@@ -3,9 +3,9 @@
  *
  *     which_harbour BOOK GRID STOPS
  *
- * BOOK is zone sheets joined end to end, up to 1,024 of them. GRID is the grid of the stops, 0 for the coarse one and 1
- * for the fine one: harbours on the other are left out. STOPS is a text with one stop a line: `x y z name`. (A harbour
- * that is refused is told whatever its grid.)
+ * BOOK is zone sheets joined end to end, up to 1,024 of them. GRID is the grid of the stops, 0 or coarse, 1 or fine:
+ * harbours on the other are left out, and a book that has none on it is refused. STOPS is a text with one stop a line:
+ * `x y z name`. (A harbour that is refused is told whatever its grid.)
  *
  * Prints for each stop the zone numbers of the harbours that it is inside of, and of those on whose boundary it is; a
  * stop that is in none has an empty list. What was refused, and why, goes to standard error: the book (then no stop is
@@ -132,7 +132,7 @@ static void print_stop(size_t k)
 {
     uint64_t inside[BOOKS_MOST] = {0}, boundary[BOOKS_MOST] = {0}, refused[BOOKS_MOST] = {0};
     if (feed.names[k] == NULL) {
-        fprintf(stderr, "refused: '%s' is not 'x y z name'\n", feed.lines[k]);
+        print_no_stop(&feed, k);
         accepted = false;
         return;
     }
@@ -149,14 +149,33 @@ static void print_stop(size_t k)
     putchar('\n');
 }
 
+static bool read_grid(const char *word, uint32_t *grid)
+{
+    *grid = strcmp(word, "1") == 0 || strcmp(word, "fine") == 0 ? SPG_FINE : SPG_COARSE;
+    return *grid == SPG_FINE || strcmp(word, "0") == 0 || strcmp(word, "coarse") == 0;
+}
+
+/* Harbours that no stop can be in, as they are on the other grid, are told: else every list would be empty. */
+static void check_grid(const char *path, const char *grid)
+{
+    size_t used = 0;
+    for (size_t i = 0; i < harbours_len; i++)
+        used += harbours[i].used;
+    if (harbours_len > 0 && used == 0) {
+        fprintf(stderr, "refused: %s: no harbour on grid %s\n", path, grid);
+        exit(1);
+    }
+}
+
 int main(int argc, char **argv)
 {
-    if (argc != 4) {
-        fprintf(stderr, "usage: which_harbour BOOK GRID STOPS\n");
+    uint32_t grid;
+    if (argc != 4 || !read_grid(argv[2], &grid)) {
+        fprintf(stderr, "usage: which_harbour BOOK GRID STOPS\nGRID is 0 or coarse, 1 or fine\n");
         return 2;
     }
-    uint32_t grid = (uint32_t)strtoul(argv[2], NULL, 10);
     find_harbours(argv[1], read_file(argv[1], bytes, sizeof bytes), grid);
+    check_grid(argv[1], argv[2]);
 
     FILE *stops = open_or_exit(argv[3], "rb");
     do {

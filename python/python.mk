@@ -1,5 +1,5 @@
 # The command, its page and its tests, for the Makefile above.
-.PHONY: run octant octant-check tool-test
+.PHONY: octant-check
 
 # The main job on the sample, from maps to verdicts and a page: by a C compiler and Python alone. With clang and wasm-ld
 # the library is in the page too.
@@ -18,9 +18,3 @@ octant-check: bin
 FUZZ ?= 60
 tool-test: lib $(PAGE_WASM)
 	@cd python && SPARGOLUTTA_LIBRARY='$(CURDIR)/$(SHARED)' FUZZ=$(FUZZ) $(PYTHON) -m unittest discover -s tests -t .
-
-$(PAGE_WASM): $(C_FILE) include/spargolutta.h
-	@mkdir -p $(@D)
-	@clang --target=wasm32 -std=c99 -O2 -ffreestanding -nostdlib -mbulk-memory -Iinclude $(C_FILE) -o $@ \
-		$(addprefix -Wl$(comma),--no-entry --stack-first -zstack-size=262144 --gc-sections --strip-all \
-		--export=__heap_base $(addprefix --export=spg_,$(PAGE_CALLS)))

@@ -13,7 +13,7 @@ fn main() {
     let folder = format!("{}/../target/{folder}", env!("CARGO_MANIFEST_DIR"));
     println!("cargo:rustc-link-search=native={folder}");
     println!("cargo:rustc-link-lib=static=spargolutta");
-    println!("cargo:rustc-env=SPG_LIBRARY={folder}/libspargolutta.a");
+    println!("cargo:rustc-env=SPG_FOLDER={folder}");
     println!("cargo:rerun-if-changed={folder}/libspargolutta.a");
     println!("cargo:rerun-if-env-changed=SPG_FORM");
 }

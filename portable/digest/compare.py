@@ -71,11 +71,20 @@ def forms(cross):
             found[name] = [starter] + build(name, compiler, C_FILE, ['-O2', '-static', *flags])
         else:
             missing.append(name)
-    if shutil.which('node') and os.path.exists(os.path.join(ROOT, 'target', 'wasm', 'digest.wasm')):
-        found['WebAssembly'] = ['node', os.path.join(ROOT, 'portable', 'wasm', 'digest.mjs')]
-    else:
-        missing.append('WebAssembly')
+    wasm = os.path.exists(os.path.join(ROOT, 'target', 'wasm', 'digest.wasm'))
+    starters = {'WebAssembly under node': ('node', ['node'], 'digest.mjs'),
+                'WebAssembly in Chromium': ('chromium', [sys.executable], 'page.py')}
+    for name, (program, words, script) in starters.items():
+        if wasm and shutil.which(program):
+            found[name] = [*words, os.path.join(ROOT, 'portable', 'wasm', script)]
+        else:
+            missing.append(name)
     return found, missing
+
+
+def octant():
+    with open(os.path.join(ROOT, 'crates', 'zone_judge', 'stdout'), encoding='utf-8') as file:
+        return file.read()
 
 
 def main(cross):
@@ -90,7 +99,8 @@ def main(cross):
     for name, words in found.items():
         started = time.monotonic()
         for work in [('2', '3000')] if name in ('gcc', 'clang') else works:
-            if run([*words, *work]) != texts[work]:
+            # The page judges the octant by the ES module first.
+            if run([*words, *work]) != (octant() if 'Chromium' in name else '') + texts[work]:
                 sys.exit(f'digest: {name} differs from the archive; see {" ".join([*words, *work])}')
         if cross:
             print(f'digest: {name} equals the archive ({time.monotonic() - started:.0f} s)', flush=True)

@@ -48,8 +48,8 @@ def of_text(text: str) -> int:
     if len(decimals) <= 7 and len(whole) <= 4 and text.isascii():
         digits = whole[1:] if whole[:1] in ("-", "+") else whole
         if digits.isdigit() and (decimals.isdigit() if point else True):
-            value = int(digits + decimals) * 10 ** (7 - len(decimals))
-            return -value if whole[0] == "-" else value
+            angle: int = int(digits + decimals) * 10 ** (7 - len(decimals))
+            return -angle if whole[0] == "-" else angle
     if not text.isascii() or "_" in text or len(text) > 1000:
         raise ValueError(text)
     try:

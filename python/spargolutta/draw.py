@@ -25,7 +25,7 @@ def library_as_wasm() -> Optional[bytes]:
     """The library as WebAssembly, where it was built: named by SPARGOLUTTA_WASM, beside this file, or in the tree."""
     named = os.environ.get("SPARGOLUTTA_WASM")
     tree = HERE.parent.parent
-    for path in [Path(named)] if named else [HERE / "spargolutta.wasm", tree / "target" / "page" / "spargolutta.wasm"]:
+    for path in [Path(named)] if named else [HERE / "spargolutta.wasm", tree / "target" / "wasm" / "spargolutta.wasm"]:
         if path.is_file():
             return path.read_bytes()
     return None
@@ -55,7 +55,7 @@ def stop_data(zones: Sequence[Zone], stops: Stops, path: str, report: Report) ->
     """What the page has of the stops: the answers of the zones that they are not outside of."""
     found: List[Dict[str, Any]] = []
     for part in stops:
-        rows = [{"id": part.ids[k], "name": part.names[k], "answers": []} for k in range(len(part.ids))]
+        rows: List[Dict[str, Any]] = [{"id": i, "name": name, "answers": []} for i, name in zip(part.ids, part.names)]
         for i, zone in enumerate(zones):
             results = angles.from_bytes(zone.judge_points(angles.points_of(part.positions, zone.grid)), unsigned=True)
             for k in range(len(rows)):

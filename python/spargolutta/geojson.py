@@ -169,7 +169,7 @@ def _position(value: Any) -> Numbers:
     if len(_array(value)) < 2 or not all(isinstance(number, Decimal) for number in value):
         shown = json.dumps(value, default=str)
         raise refuse(f"{shown[:60]} is no position: two or more numbers are needed")
-    return value
+    return list(value)
 
 
 def property_of(feature: Feature, name: str) -> Optional[str]:

@@ -61,7 +61,7 @@ def files_of(path: str) -> List[str]:
 
 def sheets(path: str, data: bytes, report: Report) -> Iterator[Loaded]:
     """The zones of a sheet or a book; what is refused is said."""
-    place, parts = 0, []
+    place, parts = 0, []  # type: int, List[bytes]
     try:
         if not data:
             raise Refused(SHEET_CUT)

@@ -30,7 +30,7 @@ class Verdict(NamedTuple):
 
     number: int
     place: int
-    count: int
+    count: int  # type: ignore[assignment]  # a tuple has a method of this name
 
     @property
     def inside(self) -> bool:

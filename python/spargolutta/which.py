@@ -3,9 +3,10 @@ import csv
 import json
 import os
 import sys
-from typing import Any, Iterator, List, NamedTuple, Sequence
+from typing import Any, Iterator, List, NamedTuple, Sequence, Tuple
 
 from . import angles
+from .angles import Position
 from .book import Book, Sets
 from .library import lib
 from .numbers import DONE, Refused
@@ -46,7 +47,7 @@ class Judge:
 
     def _rows_of(self, part: Part, k: int, sets: Sets) -> Iterator[Row]:
         stop = (part.ids[k], part.names[k])
-        position = tuple(angles.from_bytes(part.positions[8 * k:8 * k + 8]))
+        position = Position(*angles.from_bytes(part.positions[8 * k:8 * k + 8]))
         if sets.refused:
             self._refuse(part.lines[k], stop, position, sets.refused)
         for i, zone in enumerate(self._book.zones):
@@ -56,7 +57,7 @@ class Judge:
                 side = zone.judge_point(angles.grid_points([position], zone.grid)[0]).place
                 yield Row(*stop, *self._called[i], "boundary", str(side))
 
-    def _refuse(self, line: int, stop: Sequence[str], position: Sequence[int], refused: int) -> None:
+    def _refuse(self, line: int, stop: Tuple[str, str], position: Position, refused: int) -> None:
         """Says why a stop was refused: by its degrees, or by each zone that refuses it."""
         at = f"{self._path}, line {line}"
         number = lib.spg_point_number(*position)
@@ -69,7 +70,7 @@ class Judge:
                 try:
                     zone.judge_point(angles.grid_points([position], zone.grid)[0])
                 except Refused as why:
-                    why.where = f"zone {zone.number} ({zone.name}), {angles.words(angles.Position(*position))}"
+                    why.where = f"zone {zone.number} ({zone.name}), {angles.words(position)}"
                     self._report.refuse(at, stop_text(*stop, why))
 
 
@@ -78,7 +79,8 @@ class Output:
 
     def __init__(self, as_json: bool) -> None:
         self._json = as_json
-        sys.stdout.reconfigure(encoding="utf-8", newline="", errors="backslashreplace")  # type: ignore[union-attr]
+        reconfigure: Any = getattr(sys.stdout, "reconfigure")
+        reconfigure(encoding="utf-8", newline="", errors="backslashreplace")
         self._writer: Any = csv.writer(sys.stdout, lineterminator="\n")
         if not as_json:
             self._writer.writerow(HEADER)

@@ -1,6 +1,5 @@
 """The command as it is used: verbs, GTFS and other CSV, exit status, closed pipes and full disks, speed."""
 import json
-import os
 import random
 import resource
 import signal

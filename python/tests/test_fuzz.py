@@ -1,5 +1,5 @@
-"""Any bytes as map, stops, sheet or book: a clear line and status 0, 1 or 2, never a traceback. The environment variable
-FUZZ says for how many seconds mutated samples are tried."""
+"""Any bytes as map, stops, sheet or book: a clear line and status 0, 1 or 2, never a traceback. The environment
+variable FUZZ says for how many seconds mutated samples are tried."""
 import io
 import os
 import random
@@ -82,7 +82,8 @@ class Fuzz(unittest.TestCase):
         """Maps, stops, sheets and books, all of them good or refused for a reason."""
         maps = [path.read_bytes() for path in sorted(MAPS.glob("*.geojson")) if path.stat().st_size < 4000]
         for name, grid in (("harbours.geojson", "coarse"), ("berths.geojson", "fine")):
-            self.assertEqual(run(["zone", str(SAMPLE / name), "--grid", grid, "-o", str(folder / (name + ".book"))])[0], 0)
+            words = ["zone", str(SAMPLE / name), "--grid", grid, "-o", str(folder / (name + ".book"))]
+            self.assertEqual(run(words)[0], 0)
         books = [(folder / f"{name}.geojson.book").read_bytes() for name in ("harbours", "berths")]
         return {"map": maps, "sheet": books, "stops": [(SAMPLE / "stops.txt").read_bytes(),
                                                        b"id,name,lon,lat\r\n1,\"a\",23.61,37.93\r\n2,b,1e1,-5\r\n"]}

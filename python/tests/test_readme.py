@@ -58,7 +58,8 @@ class Readme(unittest.TestCase):
         for command in verbs:
             refused = "stops.txt" in command
             self.shell(command, 1 if refused else 0)
-        self.assertIn("H3,Φάρος (on the corner),1,Λιμάνι Ηλιος,boundary,7", (self.folder / "found.csv").read_text("utf-8"))
+        found = (self.folder / "found.csv").read_text("utf-8")
+        self.assertIn("H3,Φάρος (on the corner),1,Λιμάνι Ηλιος,boundary,7", found)
         self.assertGreater((self.folder / "map.html").stat().st_size, 20_000)
 
     def test_table_is_what_is_printed(self) -> None:

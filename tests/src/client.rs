@@ -13,12 +13,12 @@ use std::process::Command;
 
 const STRICT: [&str; 4] = ["-Wall", "-Wextra", "-Werror", "-pedantic"];
 
-/// The flags for the repository's own header and archive.
+/// The flags for the repository's own header and the archive under test.
 pub fn flags() -> Vec<String> {
     let path = |name| repository(name).display().to_string();
     vec![
         format!("-I{}", path("include")),
-        format!("-L{}", path("target/staticlib")),
+        format!("-L{}", env!("SPG_FOLDER")),
         "-lspargolutta".to_string(),
     ]
 }

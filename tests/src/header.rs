@@ -98,7 +98,7 @@ fn declarations() -> String {
 #[test]
 fn header_complete() {
     let declared = declarations();
-    let archive = repository("target/staticlib/libspargolutta.a");
+    let archive = concat!(env!("SPG_FOLDER"), "/libspargolutta.a");
     let symbols = output_of(command("nm", ["-g", "--defined-only"]).arg(archive), &[]);
     let exported = words_of(&symbols, "spg_");
     let is_call = |word: &String| declared.contains(&format!("{word}("));

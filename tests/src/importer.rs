@@ -45,6 +45,19 @@ fn importer_stops() {
     importer.0.run(&["harbour", "missing"], 2, "", "missing: No such file or directory\n");
 }
 
+/// A line of over 1,023 bytes is refused whole: its tail makes no stop. One that just fits is judged.
+#[test]
+fn importer_long_lines() {
+    let importer = Importer::new("importer-long");
+    let name = |length: usize| "n".repeat(length - "3 2 1 ".len());
+    let ghost = format!("3 2 1 {} 3 2 1 ghost", name(1_023));
+    let stops = format!("{ghost}\n3 2 1 {}\r\n3 2 1 {}\n{ghost}", name(1_022), name(1_023));
+    importer.stops(&stops);
+    let told = format!("refused: a line of over 1023 bytes: '{}'\n", &ghost[..40]);
+    let belong = format!("{}: inside\n{}: inside\n", name(1_022), name(1_023));
+    importer.import(&octant().bytes(), 1, &belong, &told.repeat(2));
+}
+
 /// Charts F1 to F3 as stops, and numbers at the fine grid's limit and past it.
 #[test]
 fn importer_fine_grid() {

@@ -77,8 +77,8 @@ fn version() -> (String, String) {
     (part("MAJOR"), ["MAJOR", "MINOR", "PATCH"].map(part).join("."))
 }
 
-/// What is installed, from the prefix on, with the libraries in `lib`: files, and links.
-fn expected(lib: &str) -> BTreeMap<String, String> {
+/// What is installed of the tree `built`, from the prefix on, with the libraries in `lib`: files, and links.
+fn expected(built: &Path, lib: &str) -> BTreeMap<String, String> {
     let (major, version) = version();
     let mut files = vec![
         ("include/spargolutta.h".to_string(), "644"),
@@ -96,7 +96,7 @@ fn expected(lib: &str) -> BTreeMap<String, String> {
     let examples = tree(&repository("examples")).into_keys();
     files.extend(examples.map(|name| (format!("share/spargolutta/examples/{name}"), "644")));
     let package = tree(&repository("python/spargolutta")).into_keys();
-    let wasm = repository("target/page/spargolutta.wasm").exists().then(|| "spargolutta.wasm".to_string());
+    let wasm = built.join("target/wasm/spargolutta.wasm").exists().then(|| "spargolutta.wasm".to_string());
     let sources = package.filter(|name| [".py", ".js", ".html", ".typed"].iter().any(|end| name.ends_with(end)));
     files.extend(sources.chain(wasm).map(|name| (format!("share/spargolutta/python/spargolutta/{name}"), "644")));
     let numbers = "share/spargolutta/numbers.tsv";
@@ -118,7 +118,7 @@ fn comes_and_goes(scratch: &Scratch, words: [&str; 3], top: &str, lib: &str) {
     let make = |goal| output_of(&mut scratch.make([goal, words[0], words[1], words[2]]), &[]);
     for _ in 0..2 {
         make("install");
-        assert_eq!(tree(&top), expected(lib));
+        assert_eq!(tree(&top), expected(&repository(""), lib));
     }
     make("uninstall");
     let left = tree(&top);
@@ -161,15 +161,20 @@ fn install_messages() {
     assert!(goals.split(' ').all(|goal| listed.contains(goal)), "{help}");
 }
 
-/// A tree in which nothing is built says so.
+/// A tree in which nothing is built says so. With a C compiler alone, the C form is built and installed there.
 #[test]
 fn install_unbuilt() {
     let scratch = scratch("install-unbuilt");
-    let tree = scratch.path("tree");
-    let parts = ["Makefile", "packaging", "include", "portable", "python"].map(repository);
-    fs::create_dir(&tree).expect("folder");
-    output_of(command("cp", ["-r"]).args(parts).arg(&tree), &[]);
-    let refusal = scratch.refusal(["-C", &tree, "install", "PREFIX=/nowhere", "DESTDIR="]);
+    let tree_of = scratch.path("tree");
+    let parts = ["Makefile", "packaging", "include", "portable", "python", "man", "examples", "share"].map(repository);
+    fs::create_dir(&tree_of).expect("folder");
+    output_of(command("cp", ["-r"]).args(parts).arg(&tree_of), &[]);
+    let refusal = scratch.refusal(["-C", &tree_of, "install", "PREFIX=/nowhere", "DESTDIR="]);
     let says = "make install: target/staticlib/libspargolutta.a is not built yet. 'make lib bin' builds it";
     assert!(refusal.contains(says), "{refusal}");
+    output_of(&mut scratch.make(["-C", &tree_of, "lib-c", "bin-c", "CFLAGS=-O1"]), &[]);
+    let stage = format!("DESTDIR={}", scratch.path("stage"));
+    let told = output_of(&mut scratch.make(["-C", &tree_of, "install", "PREFIX=/usr", &stage]), &[]);
+    assert!(told.contains("the C compiler built portable/spargolutta.c"), "{told}");
+    assert_eq!(tree(&scratch.0.path("stage/usr")), expected(Path::new(&tree_of), "lib"));
 }

@@ -38,7 +38,13 @@ fn which_harbour() {
     example.look_up(&book, "0", stops, 1, found, refused);
     let fine = "Lighthouse: inside 71\nOld pier: boundary 71\nPole: boundary 71\nOpen sea:\n";
     example.look_up(&book, "1", stops, 1, fine, "refused: '12 13' is not 'x y z name'\n");
-    example.look_up(&book, "2", "3 2 1 Lighthouse\n", 0, "Lighthouse:\n", "");
+    example.look_up(&book, "fine", stops, 1, fine, "refused: '12 13' is not 'x y z name'\n");
+    let usage = "usage: which_harbour BOOK GRID STOPS\nGRID is 0 or coarse, 1 or fine\n";
+    for grid in ["2", "", "0x", "Fine"] {
+        example.look_up(&book, grid, "3 2 1 Lighthouse\n", 2, "", usage);
+    }
+    let coarse = octant().bytes();
+    example.look_up(&coarse, "1", "3 2 1 Lighthouse\n", 1, "", "refused: book: no harbour on grid 1\n");
     example.look_up(&[], "0", "3 2 1 Lighthouse\n", 0, "Lighthouse:\n", "");
 }
 
