@@ -17,7 +17,7 @@ MUTANTS = [
      'c_types.py', 'declare(element, f"e[{count}]")', 'declare(element, f"e[{count // 2 + 1}]")'),
     (('type', 'Struct'), 'a slice without its length', NONE,
      'c_types.py', "lambda: f'struct {{ {members(c_fields)} }}'", "lambda: f'struct {{ {members(c_fields[:1])} }}'"),
-    (('type', 'Named'), 'variants share a slot whatever its type', NONE,
+    (('type', 'Named'), 'variants share a slot whatever its type', 'only numbers meet so, and none of them has over 32 bits',
      'c_types.py', 'if slots[i] == ty), None)', 'if True), None)'),
     (('type', 'Named'), 'fields of a variant share a slot', NONE,
      'c_types.py', '                    free.remove(slot)', '                    pass'),
