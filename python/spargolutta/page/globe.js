@@ -114,7 +114,7 @@ function fill(shape, colour) {
 // Lines of latitude and longitude, finer the nearer.
 function graticule() {
   const span = Math.min(90, Math.max(canvas.clientWidth, canvas.clientHeight) / view.radius / 2 / RADIAN * 1.2);
-  const wide = Math.min(180, span / Math.max(0.02, Math.cos(view.lat * RADIAN))), lines = [];
+  const wide = span > 45 ? 180 : Math.min(180, span / Math.max(0.02, Math.cos(view.lat * RADIAN))), lines = [];
   const [step, across] = [span, wide].map((size) => LINES.find((line) => 2 * size / line >= 5) || LINES.at(-1));
   const low = Math.max(-90, view.lat - span), high = Math.min(90, view.lat + span);
   for (let lon = Math.ceil((view.lon - wide) / across) * across; lon <= view.lon + wide; lon += across) {
