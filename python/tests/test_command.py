@@ -1,5 +1,7 @@
 """The command as it is used: verbs, GTFS and other CSV, exit status, closed pipes and full disks, speed."""
 import json
+import os
+import pty
 import random
 import resource
 import signal
@@ -171,6 +173,23 @@ class Ends(Files):
         process.send_signal(signal.SIGINT)
         _, errors = process.communicate()
         self.assertEqual((process.returncode, errors), (130, b"interrupted\n"))
+
+    def test_progress_on_a_terminal(self) -> None:
+        """Work of over a second shows how far it is, on a terminal alone."""
+        leader, follower = pty.openpty()
+        process = subprocess.Popen([*COMMAND, "which", str(self.sheet()), "-"], cwd=REPOSITORY / "python",
+                                   stdin=subprocess.PIPE, stdout=subprocess.DEVNULL, stderr=follower)
+        assert process.stdin is not None
+        process.stdin.write(b"id,name,lon,lat\n" + b"1,A,23.64,37.925\n" * 64)
+        process.stdin.flush()
+        time.sleep(2)
+        process.stdin.write(b"1,A,23.64,37.925\n" * 400)
+        process.stdin.close()
+        self.assertEqual(process.wait(), 0)
+        os.close(follower)
+        shown = os.read(leader, 10_000).decode()
+        os.close(leader)
+        self.assertRegex(shown, r"^\r +[0-9]+ stops .*\r +\r$")
 
     def test_no_library(self) -> None:
         done = run("show", self.folder, env={"SPARGOLUTTA_LIBRARY": "/nowhere.so"})
