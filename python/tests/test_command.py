@@ -12,6 +12,7 @@ import time
 import unittest
 from math import cos, pi, sin
 from pathlib import Path
+from xml.etree import ElementTree
 
 import spargolutta as spg
 from spargolutta import geojson, maps
@@ -134,6 +135,32 @@ class Sheets(Files):
         one, two, out = self.sheet(), self.sheet("b.sheet", "spatialite.geojson"), self.folder / "x.book"
         self.assertEqual(run("book", one, two, "-o", out).returncode, 0)
         self.assertEqual(out.read_bytes(), one.read_bytes() + two.read_bytes())
+
+
+class Draw(Files):
+    def test_svg(self) -> None:
+        """A picture with zones and stops by name; a folder of zones and no stops will do."""
+        stops = self.folder / "s.csv"
+        stops.write_text("id,name,lon,lat\nx,<X>,23.64,37.925\ny,Y,23.61,37.93\nz,Z,23.66,37.94\n")
+        out = self.folder / "map.svg"
+        self.assertEqual(run("draw", self.sheet(), stops, "-o", out).returncode, 0)
+        titles = [title.text for title in ElementTree.parse(out).iter("{http://www.w3.org/2000/svg}title")]
+        self.assertEqual(titles, ["1 Λιμάνι", "x <X>, inside", "y Y, outside", "z Z, boundary"])
+        self.assertEqual(run("draw", self.folder, "-o", out).returncode, 0)
+
+    def test_page_without_stops(self) -> None:
+        out = self.folder / "map.html"
+        self.assertEqual(run("draw", self.sheet(), "-o", out).returncode, 0)
+        self.assertIn('"stops": []', out.read_text("utf-8"))
+        self.assertEqual(run("draw", self.folder / "none", "-o", out).returncode, 2)
+
+    def test_names_are_no_script(self) -> None:
+        """Names go into the page as data: none of them ends its script."""
+        stops, out = self.folder / "s.csv", self.folder / "map.html"
+        stops.write_text("id,name,lon,lat\n</script>,<!--<script>,23.64,37.925\n")
+        self.assertEqual(run("draw", self.sheet(), stops, "-o", out).returncode, 0)
+        text = out.read_text("utf-8")
+        self.assertEqual((text.count("</script>"), text.count("<!--")), (1, 0))
 
 
 class Ends(Files):
