@@ -1,5 +1,5 @@
 /*
- * files.h: opening and closing files, for stops.h and make_zone.c. What fails ends the program with 2.
+ * files.h: opening and closing files, and their lines, for stops.h and make_zone.c. What fails ends the program with 2.
  */
 #ifndef FILES_H
 #define FILES_H
@@ -7,6 +7,9 @@
 #include <stdbool.h>
 #include <stdio.h>
 #include <stdlib.h>
+#include <string.h>
+
+#define LINE_MOST 1024 /* bytes of a line, with its end and a zero */
 
 static FILE *open_or_exit(const char *path, const char *mode)
 {
@@ -25,6 +28,21 @@ static void close_or_exit(FILE *file, const char *path)
         fprintf(stderr, "%s: cannot be read or written\n", path);
         exit(2);
     }
+}
+
+/* Reads a line, past what there is no room for; whether there was one. */
+static inline bool read_line(FILE *file, char *line, bool *cut)
+{
+    *cut = false;
+    if (fgets(line, LINE_MOST, file) == NULL)
+        return false;
+    if (strlen(line) == LINE_MOST - 1 && line[LINE_MOST - 2] != '\n') {
+        int c = getc(file);
+        *cut = c != EOF && c != '\n';
+        while (c != EOF && c != '\n')
+            c = getc(file);
+    }
+    return true;
 }
 
 #endif

@@ -13,7 +13,6 @@
 #include <string.h>
 
 #define FEED_MOST 4096 /* stops in a feed */
-#define LINE_MOST 1024 /* bytes of a line, with its end and a zero */
 
 struct feed {
     size_t n; /* how many stops it has */
@@ -50,21 +49,6 @@ static const char *read_stop(char *line, uint8_t *query)
     }
     spg_put_point(query, numbers[0], numbers[1], numbers[2]);
     return line + strspn(line, " \t");
-}
-
-/* Reads a line, past what there is no room for; whether there was one. */
-static bool read_line(FILE *file, char *line, bool *cut)
-{
-    *cut = false;
-    if (fgets(line, LINE_MOST, file) == NULL)
-        return false;
-    if (strlen(line) == LINE_MOST - 1 && line[LINE_MOST - 2] != '\n') {
-        int c = getc(file);
-        *cut = c != EOF && c != '\n';
-        while (c != EOF && c != '\n')
-            c = getc(file);
-    }
-    return true;
 }
 
 /* Reads the next stops, as many as a feed takes. */

@@ -11,10 +11,14 @@ package decides a verdict: every one is the library's.
 """
 from .angles import COARSE, FINE
 from .book import Book, Sets
+from .geojson import NotWgs84
+from .known import FarSideInside, WrongKnown
 from .library import LibraryMissing
+from .maps import NotUnderstood, Repaired
 from .numbers import BOUNDARY, INSIDE, OUTSIDE, Refused, Verdict, meaning
 from .zone import ISO_8859_7, UTF8, WINDOWS_1253, Answers, Zone
 
 __version__ = "1.0.0"
-__all__ = ["Answers", "BOUNDARY", "Book", "COARSE", "FINE", "INSIDE", "ISO_8859_7", "LibraryMissing", "OUTSIDE",
-           "Refused", "Sets", "UTF8", "Verdict", "WINDOWS_1253", "Zone", "meaning"]
+__all__ = ["Answers", "BOUNDARY", "Book", "COARSE", "FINE", "FarSideInside", "INSIDE", "ISO_8859_7", "LibraryMissing",
+           "NotUnderstood", "NotWgs84", "OUTSIDE", "Refused", "Repaired", "Sets", "UTF8", "Verdict", "WINDOWS_1253",
+           "WrongKnown", "Zone", "meaning"]

@@ -71,7 +71,7 @@ def parser() -> argparse.ArgumentParser:
                  "harbour.geojson --number 7 -o piraeus.sheet")
     zone.add_argument("map", metavar="MAP")
     zone.add_argument("-o", dest="output", metavar="FILE", required=True, help="a sheet, a .book, or a folder/")
-    _add_charset(zone, "the name in the sheet")
+    _add_charset(zone, "the map, and so of the name in the sheet")
     zone.add_argument("--number", type=int, metavar="N", help="the zone's number (1); further features count on")
     zone.add_argument("--name", help="the zone's name")
     zone.add_argument("--known", metavar="LON,LAT", help="a place inside; else one is found")
@@ -83,7 +83,7 @@ def parser() -> argparse.ArgumentParser:
     which.add_argument("stops", metavar="STOPS", help="GTFS stops.txt or another CSV file; - is standard input")
     which.add_argument("--all", action="store_true", help="a row also for each stop that is in none")
     which.add_argument("--json", action="store_true", help="lines of JSON instead of CSV")
-    _add_charset(which, "the stops and of names of zones made here")
+    _add_charset(which, "stops and maps")
     _add_stop_options(which)
     _add_map_options(which)
 
@@ -91,7 +91,7 @@ def parser() -> argparse.ArgumentParser:
                  "harbours.book gtfs/stops.txt -o map.html")
     draw.add_argument("zones", metavar="ZONES", nargs="+", help="as for which; the last may be a file of stops")
     draw.add_argument("-o", dest="output", metavar="FILE", required=True, help="map.html or map.svg")
-    _add_charset(draw, "the stops and of names of zones made here")
+    _add_charset(draw, "stops and maps")
     _add_stop_options(draw)
     _add_map_options(draw)
 

@@ -32,6 +32,7 @@ def library_as_wasm() -> Optional[bytes]:
 
 
 def unit(point: Sequence[int]) -> Vector:
+    """A point's direction, of length 1."""
     size = math.sqrt(sum(c * c for c in point))
     return point[0] / size, point[1] / size, point[2] / size
 
@@ -92,6 +93,7 @@ def view_of(zones: Sequence[Zone], stops: Sequence[Dict[str, Any]]) -> Dict[str,
 
 
 def unit_at(lon: float, lat: float) -> Vector:
+    """The direction of degrees."""
     a, b = math.radians(lon), math.radians(lat)
     return math.cos(b) * math.cos(a), math.cos(b) * math.sin(a), math.sin(b)
 

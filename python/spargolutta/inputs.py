@@ -9,7 +9,7 @@ from .library import SHEET_MOST, SHEETS_MOST
 from .maps import NotUnderstood, Options
 from .numbers import BOOK_LONG, Refused
 from .report import Failure, Report, why_not
-from .zone import CODECS, UTF8, Zone
+from .zone import CODECS, Zone
 
 MAP_MOST = 1 << 28
 SUFFIXES = (".sheet", ".book", ".geojson", ".json")
@@ -84,7 +84,7 @@ def map_zones(path: str, data: bytes, options: Options, report: Report) -> Itera
     """The zones of a map, one for each feature; what was changed and what is refused is said."""
     stem = Path(path).stem[:40] or "zone"
     try:
-        found = geojson.features(geojson.parse(data, CODECS[UTF8]))
+        found = geojson.features(geojson.parse(data, CODECS[options.charset]))
         if options.known is not None and len(found) > 1:
             raise NotUnderstood(f"a known point is for one feature, and here are {len(found)}")
     except (Refused, geojson.NotWgs84) as refused:

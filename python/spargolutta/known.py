@@ -25,7 +25,8 @@ class FarSideInside(ValueError):
 
     def __init__(self, position: Position) -> None:
         super().__init__(f"with the known point {angles.words(position)} the far side of the globe is inside: "
-                         "the known point is wrong, or the zone is larger than a hemisphere (--far-side-inside)")
+                         "the known point is wrong, the zone is as small as the grid's steps (--grid fine), or it is "
+                         "larger than a hemisphere (--far-side-inside)")
 
 
 def _moved(position: Position, grid: int) -> Iterator[Position]:

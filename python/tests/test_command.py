@@ -1,5 +1,7 @@
 """The command as it is used: verbs, GTFS and other CSV, exit status, closed pipes and full disks, speed."""
 import json
+import os
+import pty
 import random
 import resource
 import signal
@@ -10,6 +12,7 @@ import time
 import unittest
 from math import cos, pi, sin
 from pathlib import Path
+from xml.etree import ElementTree
 
 import spargolutta as spg
 from spargolutta import geojson, maps
@@ -134,6 +137,32 @@ class Sheets(Files):
         self.assertEqual(out.read_bytes(), one.read_bytes() + two.read_bytes())
 
 
+class Draw(Files):
+    def test_svg(self) -> None:
+        """A picture with zones and stops by name; a folder of zones and no stops will do."""
+        stops = self.folder / "s.csv"
+        stops.write_text("id,name,lon,lat\nx,<X>,23.64,37.925\ny,Y,23.61,37.93\nz,Z,23.66,37.94\n")
+        out = self.folder / "map.svg"
+        self.assertEqual(run("draw", self.sheet(), stops, "-o", out).returncode, 0)
+        titles = [title.text for title in ElementTree.parse(out).iter("{http://www.w3.org/2000/svg}title")]
+        self.assertEqual(titles, ["1 Λιμάνι", "x <X>, inside", "y Y, outside", "z Z, boundary"])
+        self.assertEqual(run("draw", self.folder, "-o", out).returncode, 0)
+
+    def test_page_without_stops(self) -> None:
+        out = self.folder / "map.html"
+        self.assertEqual(run("draw", self.sheet(), "-o", out).returncode, 0)
+        self.assertIn('"stops": []', out.read_text("utf-8"))
+        self.assertEqual(run("draw", self.folder / "none", "-o", out).returncode, 2)
+
+    def test_names_are_no_script(self) -> None:
+        """Names go into the page as data: none of them ends its script."""
+        stops, out = self.folder / "s.csv", self.folder / "map.html"
+        stops.write_text("id,name,lon,lat\n</script>,<!--<script>,23.64,37.925\n")
+        self.assertEqual(run("draw", self.sheet(), stops, "-o", out).returncode, 0)
+        text = out.read_text("utf-8")
+        self.assertEqual((text.count("</script>"), text.count("<!--")), (1, 0))
+
+
 class Ends(Files):
     def test_usage(self) -> None:
         for words in ((), ("fly",), ("zone",), ("zone", "x", "-o", "y", "--grid", "rough")):
@@ -171,6 +200,23 @@ class Ends(Files):
         process.send_signal(signal.SIGINT)
         _, errors = process.communicate()
         self.assertEqual((process.returncode, errors), (130, b"interrupted\n"))
+
+    def test_progress_on_a_terminal(self) -> None:
+        """Work of over a second shows how far it is, on a terminal alone."""
+        leader, follower = pty.openpty()
+        process = subprocess.Popen([*COMMAND, "which", str(self.sheet()), "-"], cwd=REPOSITORY / "python",
+                                   stdin=subprocess.PIPE, stdout=subprocess.DEVNULL, stderr=follower)
+        assert process.stdin is not None
+        process.stdin.write(b"id,name,lon,lat\n" + b"1,A,23.64,37.925\n" * 64)
+        process.stdin.flush()
+        time.sleep(2)
+        process.stdin.write(b"1,A,23.64,37.925\n" * 400)
+        process.stdin.close()
+        self.assertEqual(process.wait(), 0)
+        os.close(follower)
+        shown = os.read(leader, 10_000).decode()
+        os.close(leader)
+        self.assertRegex(shown, r"^\r +[0-9]+ stops .*\r +\r$")
 
     def test_no_library(self) -> None:
         done = run("show", self.folder, env={"SPARGOLUTTA_LIBRARY": "/nowhere.so"})

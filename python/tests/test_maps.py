@@ -116,8 +116,11 @@ class Maps(unittest.TestCase):
 
     def test_names_and_numbers(self) -> None:
         with tempfile.TemporaryDirectory() as folder:
-            out = Path(folder) / "x.book"
-            done = run("zone", MAPS / "by-hand-lake-island.geojson", "--number-from", "no", "--name-from", "title",
+            out, greek = Path(folder) / "x.book", Path(folder) / "greek.geojson"
+            text = (MAPS / "by-hand-lake-island.geojson").read_text("utf-8")
+            greek.write_bytes(text.encode("cp1253"))
+            self.assertIn("line 2: byte 0xcb is not utf-8", run("zone", greek, "-o", out).stderr)
+            done = run("zone", greek, "--number-from", "no", "--name-from", "title",
                        "--charset", "windows-1253", "-o", out)
             self.assertEqual(done.returncode, 0)
             book = spg.Book(out.read_bytes())

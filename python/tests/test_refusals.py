@@ -160,8 +160,17 @@ class Refusals(unittest.TestCase):
             [[-180, -90], [180, -90], [180, 90], [-180, 90], [-180, -90]],
             [[10, 10], [11, 10], [11, 11], [10, 10]]]}).encode()
         for path in (world, self.file("but.geojson", hole)):
-            done = run("zone", path, "--far-side-inside", "-o", out)
+            done = run("zone", path, "-o", out)
             self.assertEqual(done.returncode, 0, done.stderr)
+            self.assertIn("the outline goes round the globe: no far side to ask", done.stderr)
+        # Some metres wide: no point of the coarse grid is inside, and the nearest ones are outside the outline.
+        sliver = self.file("sliver.geojson", polygon((10.8802325, 50.0868526), (10.8802025, 50.0867538),
+                                                     (10.8801928, 50.0867361), (10.8802325, 50.0868526)))
+        self.told(f"{sliver}: refused: with the known point 10.8802292 east, 50.0868424 north the far side of the globe "
+                  "is inside: the known point is wrong, the zone is as small as the grid's steps (--grid fine), or it is "
+                  "larger than a hemisphere (--far-side-inside)", "zone", sliver, "-o", out)
+        self.assertEqual(run("zone", sliver, "--far-side-inside", "-o", out).returncode, 0)
+        self.assertEqual(run("zone", sliver, "--grid", "fine", "-o", out).returncode, 0)
 
     def test_stops(self) -> None:
         path = self.file("zone.sheet", sheet(OCTANT))

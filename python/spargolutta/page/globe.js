@@ -114,10 +114,10 @@ function fill(shape, colour) {
 // Lines of latitude and longitude, finer the nearer.
 function graticule() {
   const span = Math.min(90, Math.max(canvas.clientWidth, canvas.clientHeight) / view.radius / 2 / RADIAN * 1.2);
-  const step = LINES.find((line) => 2 * span / line >= 5) || LINES[LINES.length - 1], lines = [];
-  const wide = Math.min(180, span / Math.max(0.02, Math.cos(view.lat * RADIAN)));
+  const wide = span > 45 ? 180 : Math.min(180, span / Math.max(0.02, Math.cos(view.lat * RADIAN))), lines = [];
+  const [step, across] = [span, wide].map((size) => LINES.find((line) => 2 * size / line >= 5) || LINES.at(-1));
   const low = Math.max(-90, view.lat - span), high = Math.min(90, view.lat + span);
-  for (let lon = Math.ceil((view.lon - wide) / step) * step; lon <= view.lon + wide; lon += step) {
+  for (let lon = Math.ceil((view.lon - wide) / across) * across; lon <= view.lon + wide; lon += across) {
     lines.push(Array.from({ length: 41 }, (_, k) => unit(lon, low + (high - low) * k / 40)));
   }
   for (let lat = Math.ceil(low / step) * step; lat <= high; lat += step) {
