@@ -61,6 +61,8 @@ mod looked;
 #[cfg(test)]
 mod multiplications;
 #[cfg(test)]
+mod points;
+#[cfg(test)]
 mod program;
 #[cfg(test)]
 mod redraw;

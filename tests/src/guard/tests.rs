@@ -197,6 +197,7 @@ fn guarded_calls() {
         "compare",
         "import",
         "point",
+        "points",
         "write",
         "sheet",
         "vertices",
