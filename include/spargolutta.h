@@ -29,7 +29,10 @@
  *              may assume it. No call keeps state or allocates, and each needs less than 64 KiB of stack; but for
  *              spg_feed_number and spg_book_feed_number with 128 queries or more, which may build an index: that
  *              needs less than 128 KiB.
- *     threads  Any number may call at once, on the same sheet too, each with buffers of its own to write to.
+ *     threads  Any number may call at once, on the same sheet too, each with buffers of its own to write to. Bytes that
+ *              a call reads should not change before it returns, as they can in shared memory or in a mapped file that
+ *              somebody else writes to. If they do, it still returns and touches no other byte; what it answers and
+ *              writes then goes by the bytes that it met, which need not have stood there together.
  *     time     Each call returns. It checks the whole sheet and works out the whole answer, in time that grows with
  *              the number of vertices; where it grows faster, the call says so.
  *     floats   Calls on a sheet with tag 7 or on grid 1, imports, and calls that make points of degrees need the
@@ -604,7 +607,14 @@ SPG_PURE size_t spg_import_fine_place(const uint8_t *text, size_t text_len, uint
                                       const uint8_t *name, size_t name_len, int32_t known_x, int32_t known_y,
                                       int32_t known_z, size_t sheet_len);
 
-/* Both at once, on the coarse grid and on the fine one. */
+/* For this file alone: how many bytes an import wrote, by the length of the vertices behind the name and the point. */
+static inline size_t spg_imported_length(const uint8_t *sheet, size_t name_len)
+{
+    return 32 + name_len + ((size_t)sheet[name_len + 30] << 8 | sheet[name_len + 31]);
+}
+
+/* Both at once, on the coarse grid and on the fine one: one call where it succeeds, as the length is that of the fields
+ * that were written. */
 SPG_USED static inline struct spg_answer spg_import(const uint8_t *text, size_t text_len, uint32_t zone,
                                                     uint32_t charset, const uint8_t *name, size_t name_len,
                                                     int32_t known_x, int32_t known_y, int32_t known_z,
@@ -613,8 +623,11 @@ SPG_USED static inline struct spg_answer spg_import(const uint8_t *text, size_t 
     struct spg_answer answer = {0, 0, 0};
     answer.number = spg_import_number(text, text_len, zone, charset, name, name_len, known_x, known_y, known_z, sheet,
                                       sheet_len);
-    answer.place = spg_import_place(text, text_len, zone, charset, name, name_len, known_x, known_y, known_z,
-                                    sheet_len);
+    if (answer.number == SPG_DONE)
+        answer.place = spg_imported_length(sheet, name_len);
+    else
+        answer.place = spg_import_place(text, text_len, zone, charset, name, name_len, known_x, known_y, known_z,
+                                        sheet_len);
     return answer;
 }
 
@@ -626,8 +639,11 @@ SPG_USED static inline struct spg_answer spg_import_fine(const uint8_t *text, si
     struct spg_answer answer = {0, 0, 0};
     answer.number = spg_import_fine_number(text, text_len, zone, charset, name, name_len, known_x, known_y, known_z,
                                            sheet, sheet_len);
-    answer.place = spg_import_fine_place(text, text_len, zone, charset, name, name_len, known_x, known_y, known_z,
-                                         sheet_len);
+    if (answer.number == SPG_DONE)
+        answer.place = spg_imported_length(sheet, name_len);
+    else
+        answer.place = spg_import_fine_place(text, text_len, zone, charset, name, name_len, known_x, known_y, known_z,
+                                             sheet_len);
     return answer;
 }
 
@@ -813,7 +829,7 @@ SPG_PURE size_t spg_write_place(uint32_t zone, uint32_t charset, const uint8_t *
                                 int32_t second_y, int32_t second_z, const uint8_t *vertices, size_t vertices_len,
                                 uint32_t grid, size_t sheet_len);
 
-/* Both at once. */
+/* Both at once: one call where it succeeds, as above. A second point's field has 15 bytes. */
 SPG_USED static inline struct spg_answer spg_write(uint32_t zone, uint32_t charset, const uint8_t *name,
                                                    size_t name_len, int32_t known_x, int32_t known_y, int32_t known_z,
                                                    int32_t second_x, int32_t second_y, int32_t second_z,
@@ -823,8 +839,12 @@ SPG_USED static inline struct spg_answer spg_write(uint32_t zone, uint32_t chars
     struct spg_answer answer = {0, 0, 0};
     answer.number = spg_write_number(zone, charset, name, name_len, known_x, known_y, known_z, second_x, second_y,
                                      second_z, vertices, vertices_len, grid, sheet, sheet_len);
-    answer.place = spg_write_place(zone, charset, name, name_len, known_x, known_y, known_z, second_x, second_y,
-                                   second_z, vertices, vertices_len, grid, sheet_len);
+    if (answer.number == SPG_DONE)
+        answer.place = 32 + name_len + ((size_t)sheet[name_len + 30] << 8 | sheet[name_len + 31])
+                       + (second_x != 0 || second_y != 0 || second_z != 0 ? 15 : 0);
+    else
+        answer.place = spg_write_place(zone, charset, name, name_len, known_x, known_y, known_z, second_x, second_y,
+                                       second_z, vertices, vertices_len, grid, sheet_len);
     return answer;
 }
 

@@ -225,6 +225,8 @@ static void print_written(const uint8_t *called, size_t called_len, const uint8_
           spg_write_number(7, SPG_UTF8, called, called_len, 1, 1, 1, 1, 1, 2, from, length, SPG_FINE, to, room),
           (unsigned long)spg_write_place(7, SPG_UTF8, called, called_len, 1, 1, 1, 1, 1, 2, from, length, SPG_FINE,
                                          room), 0);
+    print_answer("whole",
+                 spg_write(7, SPG_UTF8, called, called_len, 1, 1, 1, 1, 1, 2, from, length, SPG_FINE, to, room));
 }
 
 static void print_octant(void)

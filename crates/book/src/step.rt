@@ -51,10 +51,12 @@ pub fn step_at(book: &[u8], at: usize) -> Step
         return Step::End;
     }
     let rest = &book[at..];
-    if let Check::Failed(number, place) = sheet_fields(rest) {
-        return Step::Refused(number, at + place);
+    let parts = sheet_fields(rest);
+    let check = parts.check;
+    match check {
+        Check::Passed => Step::Sheet(at, sheet_end(parts)),
+        Check::Failed(number, place) => Step::Refused(number, at + place),
     }
-    Step::Sheet(at, sheet_end(rest))
 }
 
 // The place after that step: past the sheet, or the same.

@@ -13,7 +13,7 @@ ghost use Rattle.compare.specs.Differences.{differs, differing, differen
 use crate::ring::Placed;
 use crate::ring::way;
 use fields::tag;
-use fields::vertices_start;
+use sheet::open::vertices_in;
 use sheet::read::Sheet;
 use sphere::direction::same_direction;
 use sphere::point::Point;
@@ -51,13 +51,13 @@ fn with_field(d: Differences, number: u8, other: bool) -> Differences
     d
 }
 
-// The vertices, as they stand in a sheet of so many.
-pub(crate) fn ring_in(b: &[u8], count: usize) -> &[u8]
-    requires { ⌜ (fiveFields (now b) ≡ Passed) × (count ≡ vertexCountOf (now b)) ⌝ }
+// The vertices, as they stand in a sheet of so many and with a name of so many bytes. Neither number is read again.
+pub(crate) fn ring_in(b: &[u8], name: usize, count: usize) -> &[u8]
+    requires { ⌜ (fiveFields (now b) ≡ Passed) × (name ≡ nameLength (now b)) ⌝ }
+    requires { ⌜ count ≡ vertexCountOf (now b) ⌝ }
     ensures { λ r. ⌜ ringOf (now r) ≡ verticesOf (now (b .entry)) ⌝ }
 {
-    let at = vertices_start(b) + 3;
-    &b[at..at + count * 12]
+    vertices_in(b, name, count)
 }
 
 // The name, which has so many bytes.

@@ -47,8 +47,8 @@ fn compare_read(left: &[u8], right: &[u8], first: Sheet, second: Sheet) -> Compa
     ensures { λ r. ⌜ r ≡ comparedAfter Passed (now (left .entry)) (now (right .entry)) ⌝ }
 {
     let ring = place_ring(
-        ring_in(left, first.vertex_count),
-        ring_in(right, second.vertex_count),
+        ring_in(left, first.name_len, first.vertex_count),
+        ring_in(right, second.name_len, second.vertex_count),
     );
     let d = all_differences(left, right, first, second, ring);
     let numbers = d.numbers;

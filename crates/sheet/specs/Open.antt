@@ -1,6 +1,7 @@
 -- Opening a sheet: what the code hands on from there, and its scratch space. Defined, in order: refusedOpen,
 -- openedAfter; roomFor, decodedOf, BoxesFor. Readers need none of it: reading and judging are stated without.
 use mathlib.Core.Path.{_≡_}
+use mathlib.Core.Bool.{false}
 use mathlib.Core.List.{List}
 use Prim.Native.Nat.{ℕ, _-_, _/_}
 use lib.IntN.{ℤ, pos}
@@ -9,10 +10,10 @@ use Rattle.sphere.specs.declared.point.Grid.the-variants.{Coarse}
 use Rattle.answer.specs.declared.Check.{Check}
 use Rattle.answer.specs.declared.Check.the-variants.{Passed, Failed}
 use Rattle.polygon.specs.Pair.{noSecond}
-use Rattle.fields.specs.Fields.{gridOf, fiveFields, fieldsCheck}
+use Rattle.fields.specs.Fields.{gridOf, hasSecond, fiveFields, fieldsCheck}
 use Rattle.judging.specs.Accept.{BoxRoom}
 use Rattle.sheet.specs.declared.open.Opened.{Opened}
-use Rattle.sheet.specs.Sheet.{knownOf, vertexCountOf, verticesOf, secondOf, loadedAfter}
+use Rattle.sheet.specs.Sheet.{nameLength, knownOf, vertexCountOf, verticesOf, secondOf, loadedAfter}
 
 -- What the checks say, and the points of a sheet that passed.
 abbrev pub refusedOpen : ℕ → ℕ → Opened
@@ -21,7 +22,9 @@ refusedOpen number place = record {
   grid = Coarse;
   known = record { x = pos 0; y = pos 0; z = pos 0 };
   second = noSecond;
+  «has_second» = false;
   count = 0;
+  name = 0;
 }
 
 abbrev pub openedAfter : Check → List ℕ → Opened
@@ -31,7 +34,9 @@ openedAfter Passed b = record {
   grid = gridOf b;
   known = knownOf b;
   second = secondOf b;
+  «has_second» = hasSecond b;
   count = vertexCountOf b;
+  name = nameLength b;
 }
 
 -- ---- scratch space

@@ -1,76 +1,91 @@
-// Opening a sheet: its checks, and what it says of its points, by value. Here, in order: Opened; vertex_count,
-// known_point, second_point, points, decode_vertices; refused, plain_into, open_into. They decode into scratch space of
-// the callers; what users lend is written by `read::load` and by nothing here.
+// Opening a sheet: its checks, and what it says of its points, by value. Here, in order: Opened; known_point,
+// second_point, points, vertices_in, decode_vertices; refused, plain_into, open_into. They decode into scratch space of
+// the callers; what users lend is written by `read::load` and by nothing here. Where a part of the bytes begins and ends
+// follows from what the fields' check handed on; no length is read again.
 ghost use mathlib.Core.Path.{_≡_};
 ghost use mathlib.Core.List.{_++_};
-ghost use Prim.Native.Nat.{_*_, _≤_};
-ghost use lib.ListN.{length, drop};
+ghost use Prim.Native.Nat.{_+_, _*_, _≤_};
+ghost use lib.ListN.{length, take, drop};
 ghost use Rattle.answer.specs.declared.Check.the-variants.{Passed};
-ghost use Rattle.fields.specs.Fields.{fiveFields, sheetFields};
+ghost use Rattle.fields.specs.Fields.{verticesStart, fiveFields, sheetFields};
+ghost use Rattle.fields.specs.Parts.{partsAfter};
 ghost use Rattle.judging.specs.Accept.{boxedAfter};
-ghost use Rattle.sheet.specs.Sheet.{knownOf, vertexCountOf, verticesOf, secondOf, plainCheck, sheetCheck};
+ghost use Rattle.sheet.specs.Sheet.{nameLength, knownOf, vertexCountOf, verticesOf, secondOf, plainCheck};
+ghost use Rattle.sheet.specs.Sheet.{sheetCheck};
 ghost use Rattle.sheet.specs.Open.{refusedOpen, openedAfter, roomFor, BoxesFor, decodedOf};
 use answer::Check;
 use big_endian::read;
+use fields::Parts;
 use judging::accept::accept_boxed;
 use judging::second::second_check;
 use sphere::point::Grid;
 use sphere::point::Point;
 
 // What the checks of a sheet say, and its points if they passed: the second is all zero where the sheet has none, and
-// `count` is the number of vertices.
+// `count` is the number of vertices; `name` is the name's length.
 pub struct Opened {
     pub check: Check,
     pub grid: Grid,
     pub known: Point,
     pub second: Point,
+    pub has_second: bool,
     pub count: usize,
+    pub name: usize,
 }
 
-fn vertex_count(b: &[u8]) -> usize
-    requires { ⌜ fiveFields (now b) ≡ Passed ⌝ }
-    ensures { λ r. ⌜ (r ≡ vertexCountOf (now (b .entry))) × (r ≤ 4096) ⌝ }
-{
-    read::short_at(b, fields::vertices_start(b) + 1) as usize / 12
-}
-
-fn known_point(b: &[u8]) -> Point
-    requires { ⌜ fiveFields (now b) ≡ Passed ⌝ }
+// After a name of so many bytes.
+fn known_point(b: &[u8], name: usize) -> Point
+    requires { ⌜ (fiveFields (now b) ≡ Passed) × (name ≡ nameLength (now b)) ⌝ }
     ensures { λ r. ⌜ r ≡ knownOf (now (b .entry)) ⌝ }
 {
-    read::point_at(b, fields::known_start(b) + 3)
+    read::point_at(b, fields::NAME_START + 6 + name)
 }
 
-fn second_point(b: &[u8]) -> Point
-    requires { ⌜ sheetFields (now b) ≡ Passed ⌝ }
+fn second_point(b: &[u8], parts: Parts) -> Point
+    requires { ⌜ (sheetFields (now b) ≡ Passed) × (parts ≡ partsAfter Passed (now b)) ⌝ }
     ensures { λ r. ⌜ r ≡ secondOf (now (b .entry)) ⌝ }
 {
-    if fields::has_second(b) {
-        return read::point_at(b, fields::second_start(b) + 3);
+    if parts.has_second {
+        return read::point_at(b, fields::second_start(parts) + 3);
     }
     Point { x: 0, y: 0, z: 0 }
 }
 
 // A sheet whose fields are sound.
-fn points(b: &[u8]) -> Opened
-    requires { ⌜ sheetFields (now b) ≡ Passed ⌝ }
+fn points(b: &[u8], parts: Parts) -> Opened
+    requires { ⌜ (sheetFields (now b) ≡ Passed) × (parts ≡ partsAfter Passed (now b)) ⌝ }
     ensures { λ r. ⌜ r ≡ openedAfter Passed (now (b .entry)) ⌝ }
 {
+    let grid = parts.grid;
     Opened {
         check: Check::Passed,
-        grid: fields::grid(b),
-        known: known_point(b),
-        second: second_point(b),
-        count: vertex_count(b),
+        grid: grid,
+        known: known_point(b, parts.name),
+        second: second_point(b, parts),
+        has_second: parts.has_second,
+        count: parts.row / 12,
+        name: parts.name,
     }
 }
 
-// The vertices go to the front of `out`.
-pub(crate) fn decode_vertices(b: &[u8], n: usize, out: &mut [i32])
-    requires { ⌜ (fiveFields (now b) ≡ Passed) × ((n ≡ vertexCountOf (now b)) × (n * 3 ≤ length (now out))) ⌝ }
+// The bytes of the vertices: count, after a name of so many bytes.
+pub fn vertices_in(b: &[u8], name: usize, count: usize) -> &[u8]
+    requires { ⌜ (fiveFields (now b) ≡ Passed) × (name ≡ nameLength (now b)) ⌝ }
+    requires { ⌜ count ≡ vertexCountOf (now b) ⌝ }
+    ensures { λ r. ⌜ now r
+        ≡ take (vertexCountOf (now (b .entry)) * 12) (drop (verticesStart (now (b .entry)) + 3) (now (b .entry))) ⌝ }
+{
+    let at = fields::NAME_START + 21 + name;
+    &b[at..at + count * 12]
+}
+
+// The vertices go to the front of `out`: n, after a name of so many bytes.
+pub(crate) fn decode_vertices(b: &[u8], name: usize, n: usize, out: &mut [i32])
+    requires { ⌜ (fiveFields (now b) ≡ Passed) × (name ≡ nameLength (now b)) ⌝ }
+    requires { ⌜ (n ≡ vertexCountOf (now b)) × (n * 3 ≤ length (now out)) ⌝ }
     ensures { λ _. ⌜ now (out .exit) ≡ verticesOf (now (b .entry)) ++ drop (n * 3) (now (out .entry)) ⌝ }
 {
-    read::decode(b, fields::vertices_start(b) + 3, n * 3, out)
+    read::decode(b, fields::NAME_START + 21 + name, n * 3, out)
 }
 
 fn refused(number: u32, place: usize) -> Opened
@@ -81,7 +96,9 @@ fn refused(number: u32, place: usize) -> Opened
         grid: Grid::Coarse,
         known: Point { x: 0, y: 0, z: 0 },
         second: Point { x: 0, y: 0, z: 0 },
+        has_second: false,
         count: 0,
+        name: 0,
     }
 }
 
@@ -94,11 +111,14 @@ pub fn plain_into(b: &[u8], scratch: &mut [i32], boxes: &mut [i32]) -> Opened
         × (now (boxes .exit) ≡ boxedAfter (plainCheck (now (b .entry))) (verticesOf (now (b .entry)))
         (now (boxes .entry))) ⌝ }
 {
-    if let Check::Failed(number, place) = fields::fields_check(b) {
-        return refused(number, place);
+    let parts = fields::fields_check(b);
+    let check = parts.check;
+    match check {
+        Check::Passed => {}
+        Check::Failed(number, place) => return refused(number, place),
     }
-    let sheet = points(b);
-    decode_vertices(b, sheet.count, scratch);
+    let sheet = points(b, parts);
+    decode_vertices(b, sheet.name, sheet.count, scratch);
     let size = sheet.count * 3;
     let grid = sheet.grid;
     match accept_boxed(grid, &scratch[..size], boxes, sheet.known) {
@@ -121,7 +141,7 @@ pub fn open_into(b: &[u8], scratch: &mut [i32], boxes: &mut [i32]) -> Opened
         Check::Passed => {}
         Check::Failed(_, _) => return sheet,
     }
-    if fields::has_second(b) {
+    if sheet.has_second {
         let size = sheet.count * 3;
         let grid = sheet.grid;
         return match second_check(grid, &scratch[..size], boxes, sheet.known, sheet.second) {

@@ -56,7 +56,7 @@ fn accepted(b: &[u8], sheet: Opened) -> Sheet
         zone: read::word_at(b, 3),
         charset: read::byte_at(b, fields::CHARSET_START + 3),
         name_at: fields::NAME_START + 3,
-        name_len: read::short_at(b, fields::NAME_START + 1) as usize,
+        name_len: sheet.name,
         known: known,
         vertex_count: sheet.count,
         second: second,
@@ -65,7 +65,7 @@ fn accepted(b: &[u8], sheet: Opened) -> Sheet
 }
 
 // A sheet, opened in scratch space for any.
-fn opened(b: &[u8]) -> Opened
+pub fn opened(b: &[u8]) -> Opened
     ensures { λ r. ⌜ r ≡ openedAfter (sheetCheck (now (b .entry))) (now (b .entry)) ⌝ }
 {
     let mut scratch = [0i32; 12288];
@@ -101,7 +101,7 @@ pub fn load(b: &[u8], out: &mut [i32; 12288]) -> Sheet
     let check = sheet.check;
     match check {
         Check::Passed => {
-            decode_vertices(b, sheet.count, out);
+            decode_vertices(b, sheet.name, sheet.count, out);
             accepted(b, sheet)
         }
         Check::Failed(number, place) => refused(number, place),

@@ -1,5 +1,6 @@
 //! Every exported call on guarded pages: good input, refused input and input of every length, at both edges.
 
+mod changing;
 mod made;
 
 use super::{Edge, Room};

@@ -105,6 +105,12 @@ impl Lines {
         }
     }
 
+    /// The calls, and both at once.
+    fn written(&mut self, number: i64, place: i64) {
+        self.put("write", [number, place, 0]);
+        self.put("whole", [number, place, 0]);
+    }
+
     fn written_octant(&mut self) {
         let sheet = octant().bytes();
         self.put("write", [0, 69, 0]);
@@ -143,7 +149,7 @@ pub fn octant_lines() -> String {
     lines.answer("choose", reference::choose(&sheet, &points_bytes(&queries)));
     lines.answer("basin", reference::basin(&points_bytes(&OCTANT), 0));
     let fine = octant_pair().on(Grid::Fine).bytes();
-    lines.put("write", [0, 84, 0]);
+    lines.written(0, 84);
     lines.bytes("fine", &fine);
     lines.compared(&sheet, &fine);
     lines.imported(TEXT, b"A", 200);
@@ -185,9 +191,9 @@ pub fn null_lines() -> String {
     lines.put("points", [28, 0, 0]);
     lines.put("points", [27, 12, 0]);
     // A writer's order: 22 for the name, 10 for the vertices, 25 for the buffer.
-    lines.put("write", [22, 0, 0]);
-    lines.put("write", [10, 0, 0]);
-    lines.put("write", [25, 84, 0]);
+    lines.written(22, 0);
+    lines.written(10, 0);
+    lines.written(25, 84);
     lines.put("text", ["inside".len() as i64, 0, 0]);
     lines.0
 }

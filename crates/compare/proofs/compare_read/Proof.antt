@@ -23,11 +23,15 @@ placed c =
 
 ring-in-requires : tie.Need-ring-in-requires
 ring-in-requires c κs =
-    let s = c .before .before in (sheet-five _ (s .pre .0 .0), ap (λ r. r .«vertex_count») (s .pre .1 .0))
+    let s = c .before .before in
+    let e = s .pre .1 .0 in
+    ((sheet-five _ (s .pre .0 .0), ap (λ r. r .«name_len») e), ap (λ r. r .«vertex_count») e)
 
 ring-in-requires-2 : tie.Need-ring-in-requires-2
 ring-in-requires-2 c κs =
-    let s = start c in (sheet-five _ (s .pre .0 .1), ap (λ r. r .«vertex_count») (s .pre .1 .1))
+    let s = start c in
+    let e = s .pre .1 .1 in
+    ((sheet-five _ (s .pre .0 .1), ap (λ r. r .«name_len») e), ap (λ r. r .«vertex_count») e)
 
 place-ring-requires : tie.Need-place-ring-requires
 place-ring-requires c κs =

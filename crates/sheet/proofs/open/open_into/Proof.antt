@@ -84,21 +84,18 @@ returns c =
     let e = plain p ∙ c .enum-told2 .given .1 in
     (p .plain-into .ensures .0 ∙ ap (λ k. openedAfter k b) (e ∙ sym (sheet-failed b e)), p .plain-into .ensures .1)
 
-has-second-requires : tie.Need-has-second-requires
-has-second-requires c κs = sound c
-
 mul-size : tie.Need-mul-size
-mul-size c = record { fits = omega (arith, few (c .before .before .before)) }
+mul-size c = record { fits = omega (arith, few (c .before .before)) }
 
 slice-reshare-prefix-second-check : tie.Need-slice-reshare-prefix-second-check
-slice-reshare-prefix-second-check c = room (c .before .before .before)
+slice-reshare-prefix-second-check c = room (c .before .before)
 
 slice-aggregate-second-check : tie.Need-slice-aggregate-second-check
-slice-aggregate-second-check c = sym (length-take-le _ _ (room (c .before .before .before .before)))
+slice-aggregate-second-check c = sym (length-take-le _ _ (room (c .before .before .before)))
 
 second-check-requires : tie.Need-second-check-requires
 second-check-requires c κs =
-    let t = c .before .before .before .before .before in
+    let t = c .before .before .before .before in
     let p = opened t in
     let s = start p in
     let b = s .args .b .now in
@@ -113,14 +110,14 @@ second-check-requires c κs =
 
 -- What the second point's check says.
 checked : (c : tie.After-second-check) →
-    let t = c .before .before .before .before .before .before in
+    let t = c .before .before .before .before .before in
     sheetCheck (start (opened t) .args .b .now) ≡ c .second-check .result
 checked c =
     let i = c .before .before .before .before in
-    let t = i .before .before in
+    let t = i .before in
     let b = start (opened t) .args .b .now in
-    let has = sym (i .before .has-second .ensures) ∙ i .if1 .taken in
     let e = points t in
+    let has = sym (ap (λ o. o .«has_second») e) ∙ i .if1 .taken in
     sheet-second b (passed t) ∙ second-present b has .1
     ∙ sym (c .second-check .ensures
     ∙ (λ j. secondCheck (limitOf (e j .grid)) (row t j) (e j .known) (e j .second)))
@@ -143,7 +140,7 @@ same-length-4 c = search needs
 returns-2 : tie.Need-returns-2
 returns-2 c =
     let k = c .before .before in
-    let t = k .before .before .before .before .before .before in
+    let t = k .before .before .before .before .before in
     let b = start (opened t) .args .b .now in
     let ok = checked k ∙ c .enum-told3 .given .1 in
     (points t ∙ sym (ap (λ k. openedAfter k b) ok), opened t .plain-into .ensures .1)
@@ -157,7 +154,7 @@ same-length-6 c = search needs
 returns-3 : tie.Need-returns-3
 returns-3 c =
     let k = c .before .before .before .before in
-    let t = k .before .before .before .before .before .before in
+    let t = k .before .before .before .before .before in
     let b = start (opened t) .args .b .now in
     let e = checked k ∙ c .before .before .number .given .1 in
     (opened-refused b (c .refused .ensures) e, opened t .plain-into .ensures .1)
@@ -170,10 +167,10 @@ same-length-8 c = search needs
 
 returns-4 : tie.Need-returns-4
 returns-4 c =
-    let t = c .before .before in
+    let t = c .before in
     let p = opened t in
     let b = start p .args .b .now in
-    let none = sym (c .before .has-second .ensures) ∙ c .if1 .left in
+    let none = sym (ap (λ o. o .«has_second») (points t)) ∙ c .if1 .left in
     let ok = sheet-second b (passed t) ∙ second-absent b none .1 in
     (points t ∙ sym (ap (λ k. openedAfter k b) ok), p .plain-into .ensures .1)
 
@@ -187,7 +184,6 @@ open-into-spec =
     same-length
     same-length-2
     returns
-    has-second-requires
     mul-size
     slice-reshare-prefix-second-check
     slice-aggregate-second-check

@@ -12,13 +12,18 @@ use Rattle.answer.specs.declared.Check.the-variants.{Passed}
 use Rattle.polygon.specs.Checks.{acceptCheck}
 use Rattle.fields.specs.Fields.{fiveFields, fieldsCheck}
 use Rattle.fields.proofs.Laws.Fields.{passed-spans}
+use Rattle.fields.proofs.Laws.Parts.{parts-check, parts-passed}
 use Rattle.judging.specs.Accept.{boxedAfter}
-use Rattle.sheet.specs.Sheet.{vertexCountOf, verticesOf, plainCheck}
+use Rattle.sheet.specs.Sheet.{nameLength, vertexCountOf, verticesOf, plainCheck}
 use Rattle.sheet.specs.Open.{openedAfter, decodedOf}
 use Rattle.sheet.proofs.Laws.Reads.{fields-sound, fields-five, plain-unsound, plain-polygon, decoded-by}
 use Rattle.sheet.proofs.Laws.Reads.{loaded-row, opened-refused}
 use Rattle.sheet.proofs.open.plain_into.Statement.{statement}
 use Rattle.sheet.proofs.open.plain_into.Tie as tie
+
+-- What the fields' check said.
+checked : (c : tie.After-fields-check) → fieldsCheck (c .before .before .args .b .now) ≡ c .fields-check .result .check
+checked c = let b = c .before .before .args .b .now in sym (parts-check b (fieldsCheck b) (c .fields-check .ensures))
 
 -- The fields are sound.
 module _ (c : tie.After-enum-told) where
@@ -26,13 +31,16 @@ module _ (c : tie.After-enum-told) where
   start = c .before .before .before .before
 
   passed : fieldsCheck (start .args .b .now) ≡ Passed
-  passed = sym (c .before .before .fields-check .ensures) ∙ c .enum-told .given .1
+  passed = checked (c .before .before) ∙ c .enum-told .given .1
 
   sound : fiveFields (start .args .b .now) ≡ Passed
   sound = fields-five (start .args .b .now) passed
 
 -- There is room for the vertices.
 module _ (c : tie.After-points) where
+  name : c .points .result .name ≡ nameLength (start (c .before) .args .b .now)
+  name = ap (λ o. o .name) (c .points .ensures)
+
   count : c .points .result .count ≡ vertexCountOf (start (c .before) .args .b .now)
   count = ap (λ o. o .count) (c .points .ensures)
 
@@ -52,19 +60,19 @@ module _ (c : tie.After-decode-vertices) where
   abbrev given : tie.Start
   given = start (c .before .before .before)
 
-  decoded : c .decode-vertices .last .1 .1 .0
+  decoded : c .decode-vertices .last .1 .1 .1 .0
       ≡ verticesOf (given .args .b .now) ++ drop (vertexCountOf (given .args .b .now) * 3) (given .args .scratch .now)
   decoded =
       c .decode-vertices .ensures
       ∙ ap (λ (k : ℕ). verticesOf (given .args .b .now) ++ drop (k * 3) (given .args .scratch .now))
       (count (c .before .before))
 
-  left : c .decode-vertices .last .1 .1 .0 ≡ decodedOf (given .args .b .now) (given .args .scratch .now)
+  left : c .decode-vertices .last .1 .1 .1 .0 ≡ decodedOf (given .args .b .now) (given .args .scratch .now)
   left =
       decoded
       ∙ sym (decoded-by (given .args .b .now) (given .args .scratch .now) (passed (c .before .before .before)))
 
-  row : take (c .before .before .points .result .count * 3) (c .decode-vertices .last .1 .1 .0)
+  row : take (c .before .before .points .result .count * 3) (c .decode-vertices .last .1 .1 .1 .0)
       ≡ verticesOf (given .args .b .now)
   row =
       ap₂ (λ (k : ℕ) (l : List ℤ). take (k * 3) l) (count (c .before .before)) decoded
@@ -72,7 +80,7 @@ module _ (c : tie.After-decode-vertices) where
 
   -- What the polygon's check was asked.
   asked : let o = c .before .before .points .result in
-      acceptCheck (limitOf (o .grid)) (take (o .count * 3) (c .decode-vertices .last .1 .1 .0)) (o .known)
+      acceptCheck (limitOf (o .grid)) (take (o .count * 3) (c .decode-vertices .last .1 .1 .1 .0)) (o .known)
       ≡ plainCheck (given .args .b .now)
   asked =
       let e = c .before .before .points .ensures in
@@ -82,8 +90,11 @@ module _ (c : tie.After-decode-vertices) where
 fields-check-requires : tie.Need-fields-check-requires
 fields-check-requires c κs = search needs
 
-enum-known-number : tie.Need-enum-known-number
-enum-known-number c = search needs
+enum-told : tie.Need-enum-told
+enum-told c = search needs
+
+enum-known-check : tie.Need-enum-known-check
+enum-known-check c = search needs
 
 refused-requires : tie.Need-refused-requires
 refused-requires c κs = search needs
@@ -92,36 +103,35 @@ returns : tie.Need-returns
 returns c =
     let f = c .before .before .before .before in
     let i = f .before .before .args in
-    let e = sym (f .fields-check .ensures) ∙ c .before .before .number .given .1 in
+    let e = checked f ∙ c .before .before .check .given .1 in
     let plain = plain-unsound (i .b .now) e in (
       opened-refused (i .b .now) (c .refused .ensures) plain,
       (sym (decoded-by (i .b .now) (i .scratch .now) e), rw plain),
     )
 
-enum-told : tie.Need-enum-told
-enum-told c = search needs
-
 points-requires : tie.Need-points-requires
-points-requires c κs = fields-sound _ (passed c)
+points-requires c κs =
+    (fields-sound _ (passed c), parts-passed _ (c .before .before .fields-check .ensures) (passed c))
 
 decode-vertices-requires : tie.Need-decode-vertices-requires
-decode-vertices-requires c κs = (sound (c .before .before), (count (c .before), room (c .before)))
+decode-vertices-requires c κs =
+    let p = c .before in ((sound (p .before), name p), (count p, room p))
 
 mul-size : tie.Need-mul-size
 mul-size c = record { fits = omega (arith, few (c .before .before .before .before)) }
 
 slice-reshare-prefix-accept-boxed : tie.Need-slice-reshare-prefix-accept-boxed
 slice-reshare-prefix-accept-boxed c =
-    let k = c .before .before .decode-vertices .kept .1 .1 .0 in
+    let k = c .before .before .decode-vertices .kept .1 .1 .1 .0 in
     let r = room (c .before .before .before .before) in
     omega arith
 
 slice-aggregate-accept-boxed : tie.Need-slice-aggregate-accept-boxed
 slice-aggregate-accept-boxed c =
     let d = c .before .before .before in
-    let k = d .decode-vertices .kept .1 .1 .0 in
+    let k = d .decode-vertices .kept .1 .1 .1 .0 in
     let r = room (d .before .before) in
-    sym (length-take-le _ (d .decode-vertices .last .1 .1 .0) (omega arith))
+    sym (length-take-le _ (d .decode-vertices .last .1 .1 .1 .0) (omega arith))
 
 accept-boxed-requires : tie.Need-accept-boxed-requires
 accept-boxed-requires c κs =
@@ -131,8 +141,8 @@ accept-boxed-requires c κs =
 enum-told-2 : tie.Need-enum-told-2
 enum-told-2 c = search needs
 
-enum-known-number-2 : tie.Need-enum-known-number-2
-enum-known-number-2 c = search needs
+enum-known-number : tie.Need-enum-known-number
+enum-known-number c = search needs
 
 refused-requires-2 : tie.Need-refused-requires-2
 refused-requires-2 c κs = search needs
@@ -173,7 +183,7 @@ returns-3 c =
     let a = c .before .before .before .before .before in
     let d = a .before .before .before .before .before in
     let b = given d .args .b .now in
-    let plain = sym (asked d) ∙ sym (a .accept-boxed .ensures .0) ∙ c .before .before .number2 .given .1 in
+    let plain = sym (asked d) ∙ sym (a .accept-boxed .ensures .0) ∙ c .before .before .number .given .1 in
     (opened-refused b (c .refused2 .ensures) plain, (left d, filled a))
 
 pub plain-into-spec : {M : Type 1} → statement M
@@ -181,10 +191,10 @@ plain-into-spec =
     tie.close
     (tie.spec
     fields-check-requires
-    enum-known-number
+    enum-told
+    enum-known-check
     refused-requires
     returns
-    enum-told
     points-requires
     decode-vertices-requires
     mul-size
@@ -192,7 +202,7 @@ plain-into-spec =
     slice-aggregate-accept-boxed
     accept-boxed-requires
     enum-told-2
-    enum-known-number-2
+    enum-known-number
     refused-requires-2
     same-length
     same-length-2

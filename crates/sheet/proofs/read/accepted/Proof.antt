@@ -1,5 +1,5 @@
 -- `read::accepted` meets its contract.
-use mathlib.Core.Path.{_≡_, ap, _∙_}
+use mathlib.Core.Path.{_≡_}
 use native.Mathlib.Omega.{arith}
 use borrow.Author.Needs.{needs}
 use lib.ListN.{length}
@@ -24,27 +24,17 @@ byte-at-requires c κs = let s = spans (c .before .before .before .before) in om
 add-t11 : tie.Need-add-t11
 add-t11 c = search needs
 
-add-short-at : tie.Need-add-short-at
-add-short-at c = search needs
-
-short-at-requires : tie.Need-short-at-requires
-short-at-requires c κs = let s = spans (c .before .before .before .before .before) in omega arith
-
-cast-t14 : tie.Need-cast-t14
-cast-t14 c = search needs
-
 returns : tie.Need-returns
 returns c =
-    let y = c .before in
-    let w = y .before in
+    let w = c .before in
     let s = w .before .before .before .before in
     let e = s .pre .1 in
     λ i. record {
       answer = Done (length (s .args .b .now));
       zone = w .word-at .ensures i;
-      charset = y .byte-at .ensures i;
+      charset = c .byte-at .ensures i;
       «name_at» = nameAt;
-      «name_len» = c .short-at .ensures i;
+      «name_len» = e i .name;
       known = e i .known;
       «vertex_count» = e i .count;
       second = e i .second;
@@ -53,13 +43,4 @@ returns c =
 
 pub accepted-spec : {M : Type 1} → statement M
 accepted-spec =
-    tie.close
-    (tie.spec
-    word-at-requires
-    add-byte-at
-    byte-at-requires
-    add-t11
-    add-short-at
-    short-at-requires
-    cast-t14
-    returns)
+    tie.close (tie.spec word-at-requires add-byte-at byte-at-requires add-t11 returns)

@@ -45,7 +45,7 @@ decode-vertices-requires : tie.Need-decode-vertices-requires
 decode-vertices-requires c κs =
     let t = c .before in
     let spans = passed-spans (start t .args .b .now) (sound t) in
-    (sound t, (count t, omega (arith, count t, spans .row .high)))
+    ((sound t, ap (λ o. o .name) (points t)), (count t, omega (arith, count t, spans .row .high)))
 
 accepted-requires : tie.Need-accepted-requires
 accepted-requires c κs = let t = c .before .before in (sheet-sound _ (passed t), points t)

@@ -1,5 +1,5 @@
--- `fields::field_check` meets its contract.
-use mathlib.Core.Path.{_≡_, sym, _∙_}
+-- `field::field_body` meets its contract.
+use mathlib.Core.Path.{_≡_, _∙_}
 use Prim.Native.Nat.{_+_}
 use native.Mathlib.Omega.{arith}
 use borrow.Author.Tests.{not-true, not-false}
@@ -8,8 +8,9 @@ use Rattle.big_endian.specs.Bytes.{shortAt}
 use Rattle.fields.specs.Fields.{isAllowed, fieldEnd}
 use Rattle.fields.proofs.Laws.Fields.{field-head-missing, field-tag-wrong, field-length-wrong}
 use Rattle.fields.proofs.Laws.Fields.{field-body-missing, field-passed}
-use Rattle.fields.proofs.field_check.Statement.{statement}
-use Rattle.fields.proofs.field_check.Tie as tie
+use Rattle.fields.proofs.Laws.Parts.{body-passed, body-failed}
+use Rattle.fields.proofs.field.field_body.Statement.{statement}
+use Rattle.fields.proofs.field.field_body.Tie as tie
 
 -- What the test of the length was asked.
 asked :
@@ -22,14 +23,14 @@ sub-if1 : tie.Need-sub-if1
 sub-if1 c = search needs
 
 returns : tie.Need-returns
-returns c = sym (field-head-missing _ _ _ _ (omega arith))
+returns c = body-failed _ (field-head-missing _ _ _ _ (omega arith))
 
 shared-slice-read-if2 : tie.Need-shared-slice-read-if2
 shared-slice-read-if2 c = search needs
 
 returns-2 : tie.Need-returns-2
 returns-2 c =
-    sym (field-tag-wrong _ _ _ _ (omega arith) (c .if2 .taken))
+    body-failed _ (field-tag-wrong _ _ _ _ (omega arith) (c .if2 .taken))
 
 add-short-at : tie.Need-add-short-at
 add-short-at c = search needs
@@ -46,7 +47,7 @@ is-allowed-requires c κs = search needs
 returns-3 : tie.Need-returns-3
 returns-3 c =
     let l = asked (c .before) ∙ not-true _ (c .if3 .taken) in
-    sym (field-length-wrong _ _ _ _ (omega arith) (c .before .before .before .if2 .left) l)
+    body-failed _ (field-length-wrong _ _ _ _ (omega arith) (c .before .before .before .if2 .left) l)
 
 sub-if4 : tie.Need-sub-if4
 sub-if4 c = search needs
@@ -59,7 +60,7 @@ unfolding fieldEnd
 returns-4 c =
     let l = asked (c .before .before) ∙ not-false _ (c .before .if3 .left) in
     let n = c .before .before .before .short-at .ensures in
-    sym (field-body-missing _ _ _ _ (omega arith) (c .before .before .before .before .if2 .left) l (omega arith))
+    body-failed _ (field-body-missing _ _ _ _ (omega arith) (c .before .before .before .before .if2 .left) l (omega arith))
 
 returns-5 : tie.Need-returns-5
 unfolding fieldEnd
@@ -67,10 +68,10 @@ returns-5 c =
     let l = asked (c .before .before) ∙ not-false _ (c .before .if3 .left) in
     let n = c .before .before .before .short-at .ensures in
     let t = c .before .before .before .before .if2 .left in
-    sym (field-passed _ _ _ _ (record { head = omega arith; tagged = t; allowed = l; body = omega arith }))
+    body-passed (field-passed _ _ _ _ (record { head = omega arith; tagged = t; allowed = l; body = omega arith })) n
 
-pub field-check-spec : {M : Type 1} → statement M
-field-check-spec =
+pub field-body-spec : {M : Type 1} → statement M
+field-body-spec =
     tie.close
     (tie.spec
     sub-if1
