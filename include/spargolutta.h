@@ -607,8 +607,8 @@ SPG_PURE size_t spg_import_fine_place(const uint8_t *text, size_t text_len, uint
                                       const uint8_t *name, size_t name_len, int32_t known_x, int32_t known_y,
                                       int32_t known_z, size_t sheet_len);
 
-/* For this file alone: how many bytes an import wrote, by the length of the vertices behind the name and the point. */
-static inline size_t spg_imported_length(const uint8_t *sheet, size_t name_len)
+/* For this file alone: the bytes of a sheet that was written, up to the end of its vertices. */
+static inline size_t spg_length_to_vertices(const uint8_t *sheet, size_t name_len)
 {
     return 32 + name_len + ((size_t)sheet[name_len + 30] << 8 | sheet[name_len + 31]);
 }
@@ -624,7 +624,7 @@ SPG_USED static inline struct spg_answer spg_import(const uint8_t *text, size_t 
     answer.number = spg_import_number(text, text_len, zone, charset, name, name_len, known_x, known_y, known_z, sheet,
                                       sheet_len);
     if (answer.number == SPG_DONE)
-        answer.place = spg_imported_length(sheet, name_len);
+        answer.place = spg_length_to_vertices(sheet, name_len);
     else
         answer.place = spg_import_place(text, text_len, zone, charset, name, name_len, known_x, known_y, known_z,
                                         sheet_len);
@@ -640,7 +640,7 @@ SPG_USED static inline struct spg_answer spg_import_fine(const uint8_t *text, si
     answer.number = spg_import_fine_number(text, text_len, zone, charset, name, name_len, known_x, known_y, known_z,
                                            sheet, sheet_len);
     if (answer.number == SPG_DONE)
-        answer.place = spg_imported_length(sheet, name_len);
+        answer.place = spg_length_to_vertices(sheet, name_len);
     else
         answer.place = spg_import_fine_place(text, text_len, zone, charset, name, name_len, known_x, known_y, known_z,
                                              sheet_len);
@@ -840,7 +840,7 @@ SPG_USED static inline struct spg_answer spg_write(uint32_t zone, uint32_t chars
     answer.number = spg_write_number(zone, charset, name, name_len, known_x, known_y, known_z, second_x, second_y,
                                      second_z, vertices, vertices_len, grid, sheet, sheet_len);
     if (answer.number == SPG_DONE)
-        answer.place = 32 + name_len + ((size_t)sheet[name_len + 30] << 8 | sheet[name_len + 31])
+        answer.place = spg_length_to_vertices(sheet, name_len)
                        + (second_x != 0 || second_y != 0 || second_z != 0 ? 15 : 0);
     else
         answer.place = spg_write_place(zone, charset, name, name_len, known_x, known_y, known_z, second_x, second_y,

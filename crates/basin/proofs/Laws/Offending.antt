@@ -7,7 +7,7 @@ use mathlib.Core.Bool.{Bool, true, false, not, _&&_, cond, true≢false}
 use Prim.Native.Nat.{ℕ, _+_, _≤_, _<_}
 use native.Mathlib.Omega.{arith}
 use borrow.Author.Tests.{eq-eqb, eqb-true}
-use lib.Dec.{T, eqb}
+use lib.Dec.{T, eqb, ltb}
 use lib.IntN.{ℤ, pos}
 use Rattle.integers.specs.Sign.{Sign, negative, nought, positive, signOf}
 use Rattle.integers.proofs.Polynomial.{var}
@@ -23,6 +23,7 @@ use Rattle.sphere.specs.OnEdge.{OnEdge}
 use Rattle.sphere.proofs.Laws.Aligned.{aligned-refl, aligned-sign, same→aligned}
 use Rattle.sphere.proofs.Laws.Amid.{Inner, level-sum, on-edge-cases}
 use Rattle.answer.specs.declared.Check.the-variants.{Passed}
+use Rattle.answer.specs.Chain.{failsIf}
 use Rattle.answer.proofs.Laws.Chain.{then-passed}
 use Rattle.polygon.specs.Vertices.{vertexCount, startOf, endOf}
 use Rattle.polygon.specs.Checks.{polygonCheck}
@@ -40,7 +41,7 @@ pub basin-polygon : (g : ℕ) (vs : List ℤ) → basinCheck g vs ≡ Passed →
 unfolding basinCheck
 basin-polygon g vs e =
     let rest = then-passed (gridCheck vs (not (isGridNumber g))) _ e .1 in
-    then-passed (polygonCheck (limitOf (gridNumbered g)) vs) _ rest .0
+    then-passed (polygonCheck (limitOf (gridNumbered g)) vs) (failsIf 34 (ltb 512 (vertexCount vs))) rest .0
 
 -- ---- ends strictly on one side
 beside-end : (s : Sign) → isBeside s nought ≡ false
