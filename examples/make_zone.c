@@ -161,6 +161,11 @@ static void make_zone(const char *ring, uint32_t zone, const char *name, const c
     struct spg_answer answer = write_sheet(zone, name);
     if (answer.number != SPG_DONE)
         refuse(ring, answer.number, answer.place);
+    if (spg_far_number(sheet, answer.place) == SPG_INSIDE) {
+        fprintf(stderr, "refused: %s: the known point is on the wrong side: the zone holds the far side of the Earth\n",
+                ring);
+        exit(1);
+    }
     printf("vertices %zu of %zu, within %g m\n", n, read, metres);
     FILE *file = open_or_exit(path, "wb");
     fwrite(sheet, 1, answer.place, file);

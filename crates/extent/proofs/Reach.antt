@@ -115,7 +115,8 @@ module _ (b : List ℕ) (e : Extent) (ok : sheetCheck b ≡ Passed) (t : Told b 
       go : (own : Bool) → e .bounded ≡ own → Within 2147483647 (e .sides .low) × Within 2147483647 (e .sides .high)
       go true q =
           let r = m .sides .own q in
-          (within-more (leb→le unit 2147483647 tt) (r .low-range), within-more (leb→le unit 2147483647 tt) (r .high-range))
+          let more = leb→le unit 2147483647 tt in
+          (within-more more (r .low-range), within-more more (r .high-range))
       go false q = subst (λ s. Within 2147483647 (s .low) × Within 2147483647 (s .high)) (sym (m .sides .whole q))
           (whole-low, whole-high)
 

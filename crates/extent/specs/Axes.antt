@@ -1,7 +1,7 @@
--- What the code holds of a bound along an axis. Defined, in order: planeOf (the normal 2^30 E - L D), Greatest, Frame (E,
--- D and F are the three axes, each one way or the other), Lower (L bounds along E whatever no plane separates from the
--- polygon), AllClear, AnyClear (the planes that show it: for L > 0 all four, for L <= 0 one of
--- them); Bounds, Encloses.
+-- What the code holds of a bound along an axis. Defined, in order: planeOf (the normal 2^30 E - L D), Greatest, Frame
+-- (E, D and F are the three axes, each one way or the other), Lower (L bounds along E whatever no plane separates from
+-- the polygon), AllClear, AnyClear (the planes that show it: for L > 0 all four, for L <= 0 one of them); Bounds,
+-- Encloses.
 use mathlib.Core.Logic.{_⊎_}
 use mathlib.Core.Path.{_≡_}
 use mathlib.Core.List.{List}

@@ -1,6 +1,6 @@
--- The box of a sheet's zone, in bytes. Defined, in order: boundedOf (the zone has a box of its own), boxCheck (27, then
--- the sheet's refusal), boxOf, boxCountOf; Holds (what is claimed of a box), BoxAfter (the buffer after the call). Number,
--- place and count are said by definition, and so is the whole; how tight another box is, is left open.
+-- The box of a sheet's zone, in bytes. Defined, in order: boundedOf (the zone has a box of its own), boxCheck (27,
+-- then the sheet's refusal), boxOf, boxCountOf; Holds (what is claimed of a box), BoxAfter (the buffer after the
+-- call). Number, place and count are said by definition, and so is the whole; how tight another box is, is left open.
 use mathlib.Core.Logic.{_⊎_}
 use mathlib.Core.Path.{_≡_}
 use mathlib.Core.Bool.{Bool, false, cond, _&&_}

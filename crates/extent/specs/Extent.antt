@@ -1,7 +1,7 @@
 -- How far a zone reaches, by its sheet's bytes. Defined, in order: Plane (a plane with all vertices strictly ahead),
 -- farOf, FarNumber (what is told of the far side); isOutside, isBounded (the zone has a box of its own); BoxFor,
--- Measured, Told (what the code holds of a polygon, and of a sheet). Which plane is found, and whether one is, is a hint:
--- no definition says it. The box in bytes is in specs/Boxes.
+-- Measured, Told (what the code holds of a polygon, and of a sheet). Which plane is found, and whether one is, is a
+-- hint: no definition says it. The box in bytes is in specs/Boxes.
 use mathlib.Core.Path.{_≡_}
 use mathlib.Core.Bool.{Bool, true, false, cond, _&&_}
 use mathlib.Core.List.{List}
@@ -28,7 +28,7 @@ pub record Plane (vs : List ℤ) : Type 0 where
   pub normal : Point
   pub ahead : Ahead vs normal
 
--- With a plane found, the single call's answer to the antipode of vertex 0; without one 0; and before either the sheet's
+-- With a plane found, the single call's answer to the antipode of vertex 0; without one 0; before either the sheet's
 -- refusal.
 unfoldable pub farOf : List ℕ → Bool → Answer
 farOf b found = cond found (sheetAnswerOf b (awayOf (verticesOf b))) (answerAfter (sheetCheck b) (Done 0))

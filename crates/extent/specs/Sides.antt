@@ -1,7 +1,7 @@
 -- A box around directions, as a database indexes them. Defined, in order: unit, moreOf, greatest (a point's greatest
 -- number in size), Between, InBox (the point divided by its greatest number lies in the box), wholeSides (the box that
--- holds everything), axis, isFronted, boxBytes. A box is six numbers in units of 2^-30: a point lies in it if low * m <= 2^30 * number <=
--- high * m for each of its three numbers, m the greatest of them in size.
+-- holds everything), axis, isFronted, boxBytes. A box is six numbers in units of 2^-30: a point lies in it if low * m
+-- <= 2^30 * number <= high * m for each of its three numbers, m the greatest of them in size.
 use mathlib.Core.Bool.{Bool, cond, _||_}
 use mathlib.Core.List.{List, _++_}
 use Prim.Native.Nat.{ℕ}

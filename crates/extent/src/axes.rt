@@ -1,6 +1,7 @@
 // A bound along an axis e, beside the two other axes d and f: what is not behind a plane with the polygon ahead of it
 // reaches at least `bound` along e, in units of 2^-30 of its greatest number. Here, in order: UNIT, LEAST, is_far,
-// plane, clears, opposite, clears_all, clears_any, forward, beside, bound. What is tried is a hint; each plane is checked exactly.
+// plane, clears, opposite, clears_all, clears_any, forward, beside, bound. What is tried is a hint; each plane is
+// checked exactly.
 ghost use mathlib.Core.Path.{_≡_};
 ghost use mathlib.Core.Bool.{true};
 ghost use lib.IntN.{negℤ};

@@ -57,7 +57,7 @@ fn least_share(vertices: &[i32], e: Vector, d: Vector, f: Vector) -> f64 {
     low
 }
 
-// A bound along e, in units of 2^-30, a little below what the vertices reach: strictly, and by more than a float is off.
+// A bound along e, in units of 2^-30, a little below what the vertices reach: by more than a float is off.
 pub(crate) fn bound_hint(vertices: &[i32], e: Point, d: Point, f: Point) -> i64 {
     let forward = along(e, 1.0);
     let share = least_share(vertices, forward, along(d, 1.0), along(f, 1.0));

@@ -22,7 +22,8 @@ use Rattle.extent.proofs.Laws.Frames.{greatest-sizes, dot-forward, dot-
 
 pub not-less : (a b : ℤ) → (a <ℤ b → ⊥) → b ≤ℤ a
 not-less a b f = diff→le (else-absurd ge (a -ℤ b) (λ h. f (diff→lt
-    (ints-sign 2 (λ a b. claim (a :- b ∷ b :- a ∷ []) (var 0 :+ var 1 ∷ []) (is (var 0) lt ∷ []) (var 1) gt) tt a b h))))
+    (ints-sign 2 (λ a b. claim (a :- b ∷ b :- a ∷ []) (var 0 :+ var 1 ∷ []) (is (var 0) lt ∷ []) (var 1) gt) tt
+    a b h))))
 
 module _ {vs : List ℤ} (P : Point) (free : Behind vs P → ⊥) where
   held : (E : Point) (L k : ℤ) → dotOf E P ≡ k → Lower vs E L → (L *ℤ pos (greatest P)) ≤ℤ (pos unit *ℤ k)
@@ -47,7 +48,10 @@ enclosed low high a b = record {
       let f = dot-forward P in
       let r = dot-backward P in
       record {
-        at-x = record { least = held P free _ _ _ (f .0) (a .along-x); most = over P free _ _ (P .x) (r .0) (b .along-x) };
+        at-x = record {
+          least = held P free _ _ _ (f .0) (a .along-x);
+          most = over P free _ _ (P .x) (r .0) (b .along-x);
+        };
         at-y = record {
           least = held P free _ _ _ (f .1 .0) (a .along-y);
           most = over P free _ _ (P .y) (r .1 .0) (b .along-y);
@@ -62,8 +66,8 @@ enclosed low high a b = record {
 -- ---- the whole
 whole-between : (k : ℤ) (m : ℕ) → natAbs k ≤ m → Between (negsuc 1073741823) (pos unit) k m
 whole-between k m h = record {
-  least = diff→le (ints-sign 3 (λ k m u. claim (m :- neg k ∷ u ∷ u :* k :- neg u :* m ∷ []) (var 2 :- var 1 :* var 0 ∷ [])
-      (is (var 0) ge ∷ is (var 1) gt ∷ []) (var 2) ge) tt k (pos m) (pos unit) (le→diff (above-size k m h)) u-positive);
+  least = diff→le (ints-sign 3 (λ k m u.
+      claim (m :- neg k ∷ u ∷ u :* k :- neg u :* m ∷ []) (var 2 :- var 1 :* var 0 ∷ []) (is (var 0) ge ∷ is (var 1) gt ∷ []) (var 2) ge) tt k (pos m) (pos unit) (le→diff (above-size k m h)) u-positive);
   most = diff→le (ints-sign 3 (λ k m u. claim (m :- k ∷ u ∷ u :* m :- u :* k ∷ []) (var 2 :- var 1 :* var 0 ∷ [])
       (is (var 0) ge ∷ is (var 1) gt ∷ []) (var 2) ge) tt k (pos m) (pos unit) (le→diff (below-size k m h)) u-positive);
 }

@@ -41,7 +41,8 @@ returns-3 c =
     let i = any .before .before in
     let s = i .before .before in
     beside-lower (s .args .vertices .now) (s .args .e) (s .args .d) (s .args .f) (s .pre .1) _
-    (near (i .before) (i .if1 .left)) (ltZ-no (rw (any .before .if2 .left) tt)) (any .clears-any .ensures (c .if3 .taken))
+    (near (i .before) (i .if1 .left)) (ltZ-no (rw (any .before .if2 .left) tt))
+    (any .clears-any .ensures (c .if3 .taken))
 
 returns-4 : tie.Need-returns-4
 returns-4 c = none (c .before .before .before .before .before)

@@ -20,7 +20,8 @@ clears-requires c κs = search needs
 returns : tie.Need-returns
 returns c = λ e.
     let s = c .before .before in
-    inl (inl (cleared (s .args .vertices .now) (s .args .e) (s .args .d) (s .args .l) _ (c .before .clears .ensures) (number s) (c .if1 .taken)))
+    inl (inl (cleared (s .args .vertices .now) (s .args .e) (s .args .d) (s .args .l) _
+    (c .before .clears .ensures) (number s) (c .if1 .taken)))
 
 opposite-requires : tie.Need-opposite-requires
 opposite-requires c κs = search needs

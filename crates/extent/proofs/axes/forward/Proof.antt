@@ -34,7 +34,8 @@ returns-2 c =
     let s = i .before .before in
     let r = near (i .before) (i .if1 .left) in
     forward-lower (s .args .vertices .now) (s .args .e) (s .args .d) (s .args .f) (s .pre .1 .0) _ r
-    (ltZ-yes (rw (all .before .if2 .taken) tt)) (below-size _ unit (r .within)) (all .clears-all .ensures (c .if3 .taken))
+    (ltZ-yes (rw (all .before .if2 .taken) tt)) (below-size _ unit (r .within))
+    (all .clears-all .ensures (c .if3 .taken))
 
 returns-3 : tie.Need-returns-3
 returns-3 c = zero-lower (c .before .before .before .before .before .pre .1 .1)

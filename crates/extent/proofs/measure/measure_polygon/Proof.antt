@@ -1,4 +1,5 @@
--- `measure_polygon` meets its contract: the antipode of vertex 0 is behind a plane just where the polygon is ahead of it.
+-- `measure_polygon` meets its contract: the antipode of vertex 0 is behind a plane just where the polygon is ahead of
+-- it.
 use mathlib.Core.Path.{_≡_, refl}
 use native.Mathlib.Omega.{arith}
 use borrow.Author.Needs.{needs}

@@ -18,9 +18,12 @@ is-ahead-requires-2 c κs = search needs
 returns-2 : tie.Need-returns-2
 unfolding isFronted
 returns-2 c =
+    let a2 = c .before in
+    let i1 = a2 .before in
+    let a1 = i1 .before in
     rw (
-      sym (c .before .before .before .is-ahead .ensures) ∙ c .before .before .if1 .left,
-      sym (c .before .is-ahead2 .ensures) ∙ c .if2 .taken,
+      sym (a1 .is-ahead .ensures) ∙ i1 .if1 .left,
+      sym (a2 .is-ahead2 .ensures) ∙ c .if2 .taken,
     )
 
 is-ahead-requires-3 : tie.Need-is-ahead-requires-3
@@ -29,10 +32,15 @@ is-ahead-requires-3 c κs = search needs
 returns-3 : tie.Need-returns-3
 unfolding isFronted
 returns-3 c =
+    let a3 = c .before in
+    let i2 = a3 .before in
+    let a2 = i2 .before in
+    let i1 = a2 .before in
+    let a1 = i1 .before in
     rw (
-      sym (c .before .before .before .before .before .is-ahead .ensures) ∙ c .before .before .before .before .if1 .left,
-      sym (c .before .before .before .is-ahead2 .ensures) ∙ c .before .before .if2 .left,
-      sym (c .before .is-ahead3 .ensures) ∙ c .if3 .taken,
+      sym (a1 .is-ahead .ensures) ∙ i1 .if1 .left,
+      sym (a2 .is-ahead2 .ensures) ∙ i2 .if2 .left,
+      sym (a3 .is-ahead3 .ensures) ∙ c .if3 .taken,
     )
 
 is-ahead-requires-4 : tie.Need-is-ahead-requires-4
@@ -41,11 +49,18 @@ is-ahead-requires-4 c κs = search needs
 returns-4 : tie.Need-returns-4
 unfolding isFronted
 returns-4 c =
+    let a4 = c .before in
+    let i3 = a4 .before in
+    let a3 = i3 .before in
+    let i2 = a3 .before in
+    let a2 = i2 .before in
+    let i1 = a2 .before in
+    let a1 = i1 .before in
     rw (
-      sym (c .before .before .before .before .before .before .before .is-ahead .ensures) ∙ c .before .before .before .before .before .before .if1 .left,
-      sym (c .before .before .before .before .before .is-ahead2 .ensures) ∙ c .before .before .before .before .if2 .left,
-      sym (c .before .before .before .is-ahead3 .ensures) ∙ c .before .before .if3 .left,
-      sym (c .before .is-ahead4 .ensures) ∙ c .if4 .taken,
+      sym (a1 .is-ahead .ensures) ∙ i1 .if1 .left,
+      sym (a2 .is-ahead2 .ensures) ∙ i2 .if2 .left,
+      sym (a3 .is-ahead3 .ensures) ∙ i3 .if3 .left,
+      sym (a4 .is-ahead4 .ensures) ∙ c .if4 .taken,
     )
 
 is-ahead-requires-5 : tie.Need-is-ahead-requires-5
@@ -54,12 +69,21 @@ is-ahead-requires-5 c κs = search needs
 returns-5 : tie.Need-returns-5
 unfolding isFronted
 returns-5 c =
+    let a5 = c .before in
+    let i4 = a5 .before in
+    let a4 = i4 .before in
+    let i3 = a4 .before in
+    let a3 = i3 .before in
+    let i2 = a3 .before in
+    let a2 = i2 .before in
+    let i1 = a2 .before in
+    let a1 = i1 .before in
     rw (
-      sym (c .before .before .before .before .before .before .before .before .before .is-ahead .ensures) ∙ c .before .before .before .before .before .before .before .before .if1 .left,
-      sym (c .before .before .before .before .before .before .before .is-ahead2 .ensures) ∙ c .before .before .before .before .before .before .if2 .left,
-      sym (c .before .before .before .before .before .is-ahead3 .ensures) ∙ c .before .before .before .before .if3 .left,
-      sym (c .before .before .before .is-ahead4 .ensures) ∙ c .before .before .if4 .left,
-      sym (c .before .is-ahead5 .ensures) ∙ c .if5 .taken,
+      sym (a1 .is-ahead .ensures) ∙ i1 .if1 .left,
+      sym (a2 .is-ahead2 .ensures) ∙ i2 .if2 .left,
+      sym (a3 .is-ahead3 .ensures) ∙ i3 .if3 .left,
+      sym (a4 .is-ahead4 .ensures) ∙ i4 .if4 .left,
+      sym (a5 .is-ahead5 .ensures) ∙ c .if5 .taken,
     )
 
 is-ahead-requires-6 : tie.Need-is-ahead-requires-6
@@ -68,12 +92,22 @@ is-ahead-requires-6 c κs = search needs
 returns-6 : tie.Need-returns-6
 unfolding isFronted
 returns-6 c =
+    let i5 = c .before in
+    let a5 = i5 .before in
+    let i4 = a5 .before in
+    let a4 = i4 .before in
+    let i3 = a4 .before in
+    let a3 = i3 .before in
+    let i2 = a3 .before in
+    let a2 = i2 .before in
+    let i1 = a2 .before in
+    let a1 = i1 .before in
     rw (
-      sym (c .before .before .before .before .before .before .before .before .before .before .is-ahead .ensures) ∙ c .before .before .before .before .before .before .before .before .before .if1 .left,
-      sym (c .before .before .before .before .before .before .before .before .is-ahead2 .ensures) ∙ c .before .before .before .before .before .before .before .if2 .left,
-      sym (c .before .before .before .before .before .before .is-ahead3 .ensures) ∙ c .before .before .before .before .before .if3 .left,
-      sym (c .before .before .before .before .is-ahead4 .ensures) ∙ c .before .before .before .if4 .left,
-      sym (c .before .before .is-ahead5 .ensures) ∙ c .before .if5 .left,
+      sym (a1 .is-ahead .ensures) ∙ i1 .if1 .left,
+      sym (a2 .is-ahead2 .ensures) ∙ i2 .if2 .left,
+      sym (a3 .is-ahead3 .ensures) ∙ i3 .if3 .left,
+      sym (a4 .is-ahead4 .ensures) ∙ i4 .if4 .left,
+      sym (a5 .is-ahead5 .ensures) ∙ i5 .if5 .left,
     )
     (c .is-ahead6 .ensures)
 

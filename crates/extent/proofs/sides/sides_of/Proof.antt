@@ -20,7 +20,8 @@ turned-requires c κs =
 returns : tie.Need-returns
 returns c =
     let low = c .before .before .bounds in
-    subst (λ high. Encloses (c .before .before .before .args .vertices .now) (record { low = low .result; high = high }))
+    let vs = c .before .before .before .args .vertices .now in
+    subst (λ high. Encloses vs (record { low = low .result; high = high }))
     (sym (c .turned .ensures)) (enclosed _ _ (low .ensures) (c .before .bounds2 .ensures))
 
 pub sides-of-spec : {M : Type 1} → statement M
