@@ -60,7 +60,7 @@ def fate(folder, mutant, good, wanted):
     if built is None:
         return 'refused by the C compiler'
     try:
-        answered = run([built, *WORK], timeout=30)
+        answered = run([built, *WORK], timeout=10)
     except subprocess.TimeoutExpired:
         return 'does not end'
     if answered.returncode != 0:

@@ -77,7 +77,7 @@ macro_rules! reading {
     };
 }
 
-pub const CALLS: [Call; 15] = [
+pub const CALLS: [Call; 17] = [
     reading!("judge", |lent| single(lent.first, lent.point(0))),
     Call { name: "feed", library: feed, reference: feed_by_reference },
     reading!("choose", |lent| choose(lent.first, lent.second)),
