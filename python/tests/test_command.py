@@ -156,6 +156,9 @@ class Draw(Files):
         titles = [title.text for title in ElementTree.parse(out).iter("{http://www.w3.org/2000/svg}title")]
         self.assertEqual(titles, ["1 Λιμάνι", "x <X>, inside", "y Y, outside", "z Z, boundary"])
         self.assertEqual(run("draw", self.folder, "-o", out).returncode, 0)
+        again = self.folder / "again.svg"
+        run("draw", self.folder / "harbour.sheet", "-", "-o", again, stdin=stops.read_bytes())
+        self.assertIn("z Z, boundary", again.read_text("utf-8"))
 
     def test_page_without_stops(self) -> None:
         out = self.folder / "map.html"
