@@ -4,8 +4,8 @@
  * The polygon comes as a zone sheet (bytes) and the query as three whole numbers. spg_judge gives the whole answer to
  * one query, and a feed those to any number of queries. Other calls choose a second known point for a sheet, compare
  * two sheets, check whether an outline is simple, ask about a book (up to 64 sheets joined end to end), make a sheet
- * from a GeoJSON text or from its parts, and hand out the parts of a sheet. A call hands out one number: where an
- * answer has several parts, several calls take the same arguments and each fetches one of them.
+ * from a GeoJSON text or from its parts, make points of degrees, and hand out the parts of a sheet. A call hands out
+ * one number: where an answer has several parts, several calls take the same arguments and each fetches one of them.
  *
  * All judging on the coarse grid is in whole numbers. On the fine grid floats decide only where their sign is proved to
  * be right, and whole numbers elsewhere: no answer depends on rounding.
@@ -28,8 +28,9 @@
  *     threads  Any number may call at once, on the same sheet too, each with buffers of its own to write to.
  *     time     Each call returns. It checks the whole sheet and works out the whole answer, in time that grows with
  *              the number of vertices; where it grows faster, the call says so.
- *     floats   Calls on a sheet with tag 7 or on grid 1, and imports, need the default rounding mode, to nearest
- *              (fesetround(FE_TONEAREST)), which a program has unless it sets another. All others work in any.
+ *     floats   Calls on a sheet with tag 7 or on grid 1, imports, and calls that make points of degrees need the
+ *              default rounding mode, to nearest (fesetround(FE_TONEAREST)), which a program has unless it sets
+ *              another. All others work in any.
  *
  * A point is a direction from the centre: x, y, z, whole numbers of at most the grid's limit in size, not all zero. x
  * points to longitude 0 on the equator, y to 90 degrees east on the equator, z to the north pole:
@@ -39,7 +40,7 @@
  *     z = limit * sin(latitude)
  *
  * Only the direction counts: (1, 0, 0) and (1048576, 0, 0) are one point. But short vectors have few directions, so use
- * the limit as the scale; spg_point_x, _y and _z do, on the coarse grid.
+ * the limit as the scale, as spg_points_number does, which makes points of any number of positions on either grid.
  *
  *     grid    number  limit              a step on the Earth   take it for
  *     coarse  0       1,048,576 (2^20)   six metres            harbours and coasts
@@ -47,7 +48,8 @@
  *
  * A sheet says its grid by the tag of its vertices, for all its points. Queries and candidates are on their sheet's
  * grid; a query to a book names its own. In bytes a point is twelve: x, y, z, signed 32-bit, big-endian. So it stands
- * in sheets, feeds, candidates and lists of vertices alike; spg_put_point puts it there.
+ * in sheets, feeds, candidates and lists of vertices alike; spg_put_point puts it there. A position in degrees is eight
+ * bytes: longitude, latitude, signed 32-bit, big-endian, in ten-millionths of a degree (spg_put_position).
  *
  * Side i (edge i) is the shorter arc from vertex i to the next one; the last side goes back to vertex 0. The known
  * point (reference point) is inside by the sheet's own claim. All numbering starts at 0.
@@ -90,6 +92,7 @@
 #define SPG_FINE 1               /* the number of the fine grid, and its limit */
 #define SPG_GRID_FINE 67108864
 #define SPG_POINT_SIZE 12        /* bytes of a point, and of a result */
+#define SPG_POSITION_SIZE 8      /* bytes of a position in degrees */
 #define SPG_VERTICES_MOST 4096   /* vertices of an outline */
 #define SPG_NAME_MOST 120        /* bytes of a name */
 #define SPG_SHEET_MOST 49319     /* bytes of a sheet */
@@ -125,12 +128,13 @@ extern "C" {
  * The lengths of a feed (26, 27) or of candidates (10) come first. A sheet is checked field by field: three head bytes
  * present (20), tag (21; the fifth may be 5 or 7), length (22), body present (20), character set (23). A byte 6 after
  * the vertices starts the sixth field (20, 22), any other is 24, and so is any byte after the sixth. Then come 11 to
- * 16, each over the whole list before the next, and 19; then the query's 17 and 18. The first that holds is given.
- * Of a sheet's calls 10 is of candidates alone: in a sheet 22 comes before it. Writing a sheet (spg_write_number) has
- * the order 23, 22, 10, 28, 11 to 16, 19, 25. An import (spg_import_number) gives 30, 31, 32 and 33 in this order, and
- * then what writing refuses. The basin profile has its own: 10, 28, 11 to 14, each over the whole list before the next,
- * 34, 35. 0, 10, 25 to 28 and 30 to 36 are never the answer to a query by one sheet. In a book a sheet on another grid
- * than the query's puts its zone into the set of those refused.
+ * 16, each over the whole list before the next, and 19; then the query's 17 and 18. The first that holds is given. Of a
+ * sheet's calls 10 is of candidates alone: in a sheet 22 comes before it. Writing a sheet (spg_write_number) has the
+ * order 23, 22, 10, 28, 11 to 16, 19, 25. An import (spg_import_number) gives 30, 31, 32 and 33 in this order, and then
+ * what writing refuses. Many positions (spg_points_number) have the order 26, 27, 28, and one of them 28, 31. The basin
+ * profile has its own: 10, 28, 11 to 14, each over the whole list before the next, 34, 35. 0, 10, 25 to 28 and 30 to 36
+ * are never the answer to a query by one sheet. In a book a sheet on another grid than the query's puts its zone into
+ * the set of those refused.
  *
  * What the refusals that everybody meets usually mean:
  *
@@ -158,6 +162,7 @@ enum spg_number {
                                 /* a step found a sheet of a book                      its start / its length         */
                                 /* two sheets were compared                            see spg_compare_number         */
                                 /* a sheet was imported, written or read               place: the sheet's length      */
+                                /* positions became points                             count: those out of range      */
     SPG_INSIDE = 1,             /* inside                                              count: sides crossed           */
     SPG_OUTSIDE = 2,            /* outside                                             count: sides crossed           */
     SPG_BOUNDARY = 3,           /* on a border side                                    place: lowest such side        */
@@ -177,8 +182,8 @@ enum spg_number {
     SPG_SHEET_CHARSET = 23,     /* unknown character set                               place: where the field begins  */
     SPG_SHEET_TRAILING = 24,    /* bytes after the last field                          place: first such byte         */
     SPG_SHEET_SHORT = 25,       /* the buffer for a sheet is too short                 place: bytes needed            */
-    SPG_QUERIES_CUT = 26,       /* a feed's queries are not whole twelves                                             */
-    SPG_RESULTS_SHORT = 27,     /* the buffer for results or vertices is too short     place: bytes needed            */
+    SPG_QUERIES_CUT = 26,       /* queries are not whole twelves, or positions eights                                 */
+    SPG_RESULTS_SHORT = 27,     /* the buffer for results or points is too short       place: bytes needed            */
     SPG_BAD_GRID = 28,          /* the number of a grid is neither 0 nor 1                                            */
     SPG_NOT_A_TEXT = 30,        /* not a text that can be imported                     place: see spg_import_number   */
     SPG_POSITION_OUTSIDE = 31,  /* latitude past 90 or longitude past 180 degrees      place: lowest such position    */
@@ -550,6 +555,7 @@ SPG_PURE uint64_t spg_compare_fields(const uint8_t *left, size_t left_len, const
 
 /*
  * spg_import_number, spg_import_place: a zone sheet from a GeoJSON text, on the coarse grid and with no second point.
+ * spg_import_fine_number, spg_import_fine_place: the same on the fine grid.
  *
  * text, text_len    One RFC 7946 Polygon: an object with exactly the members "type" ("Polygon") and "coordinates", in
  *                   either order, without escapes in its strings, with white space around tokens or none. One ring of
@@ -560,7 +566,8 @@ SPG_PURE uint64_t spg_compare_fields(const uint8_t *left, size_t left_len, const
  *                   What is not such a text gets 30.
  * zone, charset     Tags 1 and 2 of the sheet. A charset other than 1 to 3 (SPG_UTF8 and its likes) is 23, place 0.
  * name, name_len    Tag 3, 1 to 120 bytes; other lengths are 22, place 0.
- * known_x, _y, _z   Tag 4: a point inside, on the coarse grid; spg_point_x and so on give it from degrees.
+ * known_x, _y, _z   Tag 4: a point inside, on the coarse grid; spg_point_x and so on give it from degrees. For
+ *                   spg_import_fine_number it is on the fine grid, and spg_point_on_x and so on give it.
  * sheet, sheet_len  The buffer, 32 bytes and the name's and 12 for each vertex; the place of 25 says how many, and
  *                   SPG_SHEET_MOST always do. spg_import_place takes its length alone.
  * Result            0, and as place the sheet's length; or a refusal. The place of 30 is the length of the longest
@@ -568,8 +575,9 @@ SPG_PURE uint64_t spg_compare_fields(const uint8_t *left, size_t left_len, const
  *                   stops too early. Positions are numbered from 0 and the last one counts. With equal arguments the
  *                   two belong together, and the count is always 0.
  *
- * spg_import_number writes, and it alone: with 0 the sheet into the first bytes of the buffer, and nothing else. The
- * sheet's vertices are the grid numbers that spg_point_x, _y and _z give for the text's positions.
+ * spg_import_number and spg_import_fine_number write, and they alone: with 0 the sheet into the first bytes of the
+ * buffer, and nothing else. The sheet's vertices are the grid numbers that spg_point_x, _y and _z give for the text's
+ * positions (tag 5); on the fine grid those of spg_point_on_x and so on (tag 7).
  */
 SPG_USED uint32_t spg_import_number(const uint8_t *text, size_t text_len, uint32_t zone, uint32_t charset,
                                     const uint8_t *name, size_t name_len, int32_t known_x, int32_t known_y,
@@ -577,8 +585,14 @@ SPG_USED uint32_t spg_import_number(const uint8_t *text, size_t text_len, uint32
 SPG_PURE size_t spg_import_place(const uint8_t *text, size_t text_len, uint32_t zone, uint32_t charset,
                                  const uint8_t *name, size_t name_len, int32_t known_x, int32_t known_y,
                                  int32_t known_z, size_t sheet_len);
+SPG_USED uint32_t spg_import_fine_number(const uint8_t *text, size_t text_len, uint32_t zone, uint32_t charset,
+                                         const uint8_t *name, size_t name_len, int32_t known_x, int32_t known_y,
+                                         int32_t known_z, uint8_t *SPG_RESTRICT sheet, size_t sheet_len);
+SPG_PURE size_t spg_import_fine_place(const uint8_t *text, size_t text_len, uint32_t zone, uint32_t charset,
+                                      const uint8_t *name, size_t name_len, int32_t known_x, int32_t known_y,
+                                      int32_t known_z, size_t sheet_len);
 
-/* Both at once. */
+/* Both at once, on the coarse grid and on the fine one. */
 SPG_USED static inline struct spg_answer spg_import(const uint8_t *text, size_t text_len, uint32_t zone,
                                                     uint32_t charset, const uint8_t *name, size_t name_len,
                                                     int32_t known_x, int32_t known_y, int32_t known_z,
@@ -592,16 +606,173 @@ SPG_USED static inline struct spg_answer spg_import(const uint8_t *text, size_t 
     return answer;
 }
 
+SPG_USED static inline struct spg_answer spg_import_fine(const uint8_t *text, size_t text_len, uint32_t zone,
+                                                         uint32_t charset, const uint8_t *name, size_t name_len,
+                                                         int32_t known_x, int32_t known_y, int32_t known_z,
+                                                         uint8_t *SPG_RESTRICT sheet, size_t sheet_len)
+{
+    struct spg_answer answer = {0, 0, 0};
+    answer.number = spg_import_fine_number(text, text_len, zone, charset, name, name_len, known_x, known_y, known_z,
+                                           sheet, sheet_len);
+    answer.place = spg_import_fine_place(text, text_len, zone, charset, name, name_len, known_x, known_y, known_z,
+                                         sheet_len);
+    return answer;
+}
+
 /*
  * spg_point_number, spg_point_x, spg_point_y, spg_point_z: the grid numbers of a position on its own, in ten-millionths
- * of a degree. The number is 0, or 31 where the position is out of range; then the grid numbers are 0. Each of them is
- * within one of 2^20 times (cos lat cos lon, cos lat sin lon, sin lat), and multiples of 90 degrees are exact. An
- * importer's stops come by these calls, so that a stop drawn on a vertex of the zone is on the boundary.
+ * of a degree, on the coarse grid. spg_point_on_number and its likes: the same on the grid of this number.
+ *
+ * The number is 0; or 28 where the grid's number is neither SPG_COARSE nor SPG_FINE; or 31 where the position is out of
+ * range; with 28 and 31 the grid numbers are 0. Each of them is within one of the grid's limit times (cos lat cos lon,
+ * cos lat sin lon, sin lat), never beyond the limit, and multiples of 90 degrees are exact. Imports, these calls and
+ * spg_points_number give one point for a position on a grid, the same on every machine: so a stop drawn on a vertex of
+ * the zone is on the boundary. With the sine of a C library some numbers would be one step off.
  */
 SPG_CONST uint32_t spg_point_number(int32_t longitude, int32_t latitude);
 SPG_CONST int32_t spg_point_x(int32_t longitude, int32_t latitude);
 SPG_CONST int32_t spg_point_y(int32_t longitude, int32_t latitude);
 SPG_CONST int32_t spg_point_z(int32_t longitude, int32_t latitude);
+SPG_CONST uint32_t spg_point_on_number(int32_t longitude, int32_t latitude, uint32_t grid);
+SPG_CONST int32_t spg_point_on_x(int32_t longitude, int32_t latitude, uint32_t grid);
+SPG_CONST int32_t spg_point_on_y(int32_t longitude, int32_t latitude, uint32_t grid);
+SPG_CONST int32_t spg_point_on_z(int32_t longitude, int32_t latitude, uint32_t grid);
+
+/*
+ * spg_points_number, spg_points_place, spg_points_count: the points of any number of positions, as a feed, candidates
+ * or a list of vertices takes them.
+ *
+ * degrees, degrees_len  The positions, 8 bytes each (spg_put_position); not whole eights are 26. None will do too.
+ * grid                  The grid of the points, SPG_COARSE or SPG_FINE; any other number is 28.
+ * points, points_len    The buffer, 12 bytes for each position; a shorter one is 27, and the place says how many bytes
+ *                       are needed. The calls for place and count take its length alone.
+ * Result                0, place 0, and as count how many positions are out of range (31); or 26, 27 or 28. With equal
+ *                       arguments and lengths the three belong together; refused, the count is 0.
+ *
+ * spg_points_number writes, and it alone. With 0, point i is the 12 bytes from 12 * i on: the grid numbers of position
+ * i, as spg_point_on_x, _y and _z give them. A position out of range becomes 0, 0, 0, which is no point: a feed says 17
+ * of it, and it spoils no other. The bytes past the last point stay as they were. With any other number nothing is
+ * written.
+ *
+ *     uint8_t degrees[2 * SPG_POSITION_SIZE], points[2 * SPG_POINT_SIZE];
+ *     if (spg_put_position(degrees, 23.6275, 37.9475) || spg_put_position(degrees + SPG_POSITION_SIZE, 23.6, 37.95))
+ *         return 1;
+ *     if (spg_points_number(degrees, sizeof degrees, SPG_COARSE, points, sizeof points) != SPG_DONE)
+ *         return 1;
+ */
+SPG_USED uint32_t spg_points_number(const uint8_t *degrees, size_t degrees_len, uint32_t grid,
+                                    uint8_t *SPG_RESTRICT points, size_t points_len);
+SPG_PURE size_t spg_points_place(const uint8_t *degrees, size_t degrees_len, uint32_t grid, size_t points_len);
+SPG_PURE size_t spg_points_count(const uint8_t *degrees, size_t degrees_len, uint32_t grid, size_t points_len);
+
+/*
+ * spg_angle_from_double, spg_angle_from_text: ten-millionths of a degree from degrees. To the nearest, and of two as
+ * near to the even one: this alone is rounded, and from the exact value of the double, or of the text with all its
+ * decimals. So 23.6275 is 236275000 either way, and seven decimals or fewer are exact.
+ *
+ * A text is a minus sign or none, one or more digits, and perhaps a point with one or more digits behind it: no plus
+ * sign, no exponent, no space.
+ *
+ * The result is 0; or 30 for any other text; or 31 for a double that is no number, and for what is past 180 degrees
+ * when rounded. With 30 and 31 the angle stays as it was.
+ */
+SPG_NONNULL SPG_USED static inline uint32_t spg_angle_from_double(int32_t *angle, double degrees)
+{
+    double rest = degrees < 0 ? -degrees : degrees;
+    uint64_t digits[3], size = 0;
+    if (!(rest < 181))
+        return SPG_POSITION_OUTSIDE;
+    uint32_t whole = (uint32_t)rest;
+    rest -= whole;
+    /* The fraction in base 2^32, exactly: what is left behind the third digit counts only below 2^-43. */
+    for (int k = 0; k < 3; k++) {
+        rest *= 4294967296.0;
+        digits[k] = (uint32_t)rest;
+        rest -= (double)digits[k];
+    }
+    /* Times 10^7: the whole part ends up in `size`, and the fraction stays. */
+    for (int k = 2; k >= 0; k--) {
+        size += digits[k] * 10000000;
+        digits[k] = size & UINT32_MAX;
+        size >>= 32;
+    }
+    if (digits[0] > 2147483648u || (digits[0] == 2147483648u && ((digits[1] | digits[2]) != 0 || size % 2 != 0)))
+        size++;
+    size += (uint64_t)whole * 10000000;
+    if (size > 1800000000)
+        return SPG_POSITION_OUTSIDE;
+    *angle = degrees < 0 ? -(int32_t)size : (int32_t)size;
+    return SPG_DONE;
+}
+
+SPG_USED static inline uint32_t spg_angle_from_text(int32_t *angle, const char *text, size_t text_len)
+{
+    size_t at = text_len > 0 && text[0] == '-', digits = 0, decimals = 0;
+    int point = 0, half = 0, above = 0; /* the first digit that is dropped, and whether one behind it is not 0 */
+    uint32_t size = 0;
+    for (size_t k = at; k < text_len; k++) {
+        if (text[k] == '.' && digits > 0 && !point) {
+            point = 1;
+            continue;
+        }
+        if (text[k] < '0' || text[k] > '9')
+            return SPG_NOT_A_TEXT;
+        digits++;
+        decimals += (size_t)point;
+        if (decimals > 8)
+            above |= text[k] != '0';
+        else if (decimals == 8)
+            half = text[k] - '0';
+        else if (size <= 180000000)
+            size = 10 * size + (uint32_t)(text[k] - '0');
+        else
+            size = UINT32_MAX; /* past 180 degrees, whatever follows */
+    }
+    if (digits == 0 || (point && decimals == 0))
+        return SPG_NOT_A_TEXT;
+    for (size_t k = decimals; k < 7; k++)
+        size = size <= 180000000 ? 10 * size : UINT32_MAX;
+    if (size <= 1800000000 && (half > 5 || (half == 5 && (above || size % 2 != 0))))
+        size++;
+    if (size > 1800000000)
+        return SPG_POSITION_OUTSIDE;
+    *angle = at == 1 ? -(int32_t)size : (int32_t)size;
+    return SPG_DONE;
+}
+
+/*
+ * A position in bytes, from ten-millionths of a degree, from degrees, or from two texts (as above). The result is 0; or
+ * 30 where a text is none; or 31 where the position is out of range, and then nothing is written.
+ */
+SPG_NONNULL SPG_USED static inline uint32_t spg_put_angles(uint8_t *to, int32_t longitude, int32_t latitude)
+{
+    uint32_t number = spg_point_number(longitude, latitude);
+    if (number == SPG_DONE) {
+        spg_put_number(to, (uint32_t)longitude);
+        spg_put_number(to + 4, (uint32_t)latitude);
+    }
+    return number;
+}
+
+SPG_NONNULL SPG_USED static inline uint32_t spg_put_position(uint8_t *to, double longitude, double latitude)
+{
+    int32_t lon = 0, lat = 0;
+    uint32_t number = spg_angle_from_double(&lon, longitude);
+    if (number == SPG_DONE)
+        number = spg_angle_from_double(&lat, latitude);
+    return number == SPG_DONE ? spg_put_angles(to, lon, lat) : number;
+}
+
+SPG_USED static inline uint32_t spg_put_position_text(uint8_t *to, const char *longitude, size_t longitude_len,
+                                                      const char *latitude, size_t latitude_len)
+{
+    int32_t lon = 0, lat = 0;
+    uint32_t first = spg_angle_from_text(&lon, longitude, longitude_len);
+    uint32_t second = spg_angle_from_text(&lat, latitude, latitude_len);
+    if (first == SPG_DONE || second == SPG_NOT_A_TEXT)
+        first = second;
+    return first == SPG_DONE ? spg_put_angles(to, lon, lat) : first;
+}
 
 /*
  * spg_write_number, spg_write_place: a zone sheet from its parts.
@@ -721,7 +892,7 @@ static inline const char *spg_meaning(uint32_t number)
     case SPG_SHEET_CHARSET: return "unknown character set";
     case SPG_SHEET_TRAILING: return "bytes after the last field";
     case SPG_SHEET_SHORT: return "buffer too short for the sheet";
-    case SPG_QUERIES_CUT: return "queries not whole twelves";
+    case SPG_QUERIES_CUT: return "query or position cut off";
     case SPG_RESULTS_SHORT: return "result buffer too short";
     case SPG_BAD_GRID: return "grid mixed or unknown";
     case SPG_NOT_A_TEXT: return "not one GeoJSON Polygon of the kind that is read";

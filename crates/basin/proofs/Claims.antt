@@ -5,7 +5,7 @@ use mathlib.Core.List.{List}
 use Prim.Native.Nat.{ℕ, _<_}
 use native.Mathlib.Omega.{arith}
 use lib.IntN.{ℤ}
-use Rattle.sphere.specs.Point.{limitOf}
+use Rattle.sphere.specs.Point.{limitOf, gridNumbered}
 use Rattle.answer.specs.declared.Check.the-variants.{Passed}
 use Rattle.polygon.specs.Vertices.{vertexCount}
 use Rattle.polygon.specs.Checks.{polygonCheck}
@@ -13,7 +13,7 @@ use Rattle.basin.specs.declared.pairs.FirstPair.{FirstPair}
 use Rattle.basin.specs.declared.pairs.FirstPair.the-variants.{Apart, Pair}
 use Rattle.basin.specs.declared.profile.Basin.the-variants.{Simple, Sharing, Refused}
 use Rattle.basin.specs.Pairs.{isOffending, firstPairOf}
-use Rattle.basin.specs.Basin.{gridNumbered, basinCheck, basinAfter, basinOf}
+use Rattle.basin.specs.Basin.{basinCheck, basinAfter, basinOf}
 use Rattle.basin.specs.Claims.{Offends, Told, BasinTold}
 use Rattle.basin.proofs.Laws.FirstPair.{First, pairs-none, pairs-found}
 use Rattle.basin.proofs.Laws.Offending.{basin-polygon, offends→test, test→offends}

@@ -1,14 +1,12 @@
 -- Document 02, P9: the basin profile's answer to any list of numbers and any number of a grid. Defined, in order:
 -- basinNumberOf, basinPlaceOf, basinCountOf (the one meaning of `Basin`: it alone has a count in a refusal);
--- isGridNumber, gridNumbered; basinCheck (10, 28, 11 to 14, 34), basinAfter (35), basinOf.
-use mathlib.Core.Bool.{Bool, not, _||_, cond}
+-- basinCheck (10, 28, 11 to 14, 34), basinAfter (35), basinOf.
+use mathlib.Core.Bool.{not}
 use mathlib.Core.List.{List}
 use Prim.Native.Nat.{ℕ}
-use lib.Dec.{eqb, ltb}
+use lib.Dec.{ltb}
 use lib.IntN.{ℤ}
-use Rattle.sphere.specs.declared.point.Grid.{Grid}
-use Rattle.sphere.specs.declared.point.Grid.the-variants.{Coarse, Fine}
-use Rattle.sphere.specs.Point.{limitOf}
+use Rattle.sphere.specs.Point.{limitOf, isGridNumber, gridNumbered}
 use Rattle.answer.specs.declared.Check.{Check}
 use Rattle.answer.specs.declared.Check.the-variants.{Passed, Failed}
 use Rattle.answer.specs.Chain.{_then_, failsIf}
@@ -35,13 +33,6 @@ abbrev pub basinCountOf : Basin → ℕ
 basinCountOf Simple = 0
 basinCountOf (Sharing first second) = second
 basinCountOf (Refused number place) = 0
-
--- A grid by its number: 0 for 2^20, 1 for 2^26. Any other number names none.
-abbrev pub isGridNumber : ℕ → Bool
-isGridNumber g = eqb g 0 || eqb g 1
-
-abbrev pub gridNumbered : ℕ → Grid
-gridNumbered g = cond (eqb g 0) Coarse Fine
 
 -- 10, 28, 11 to 14, 34.
 unfoldable pub basinCheck : ℕ → List ℤ → Check

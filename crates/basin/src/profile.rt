@@ -1,15 +1,15 @@
-// The basin profile of any list of numbers. Here, in order: Basin, basin_number, basin_place, basin_count; grid_numbered,
-// basin_check, answer_by, check_basin.
+// The basin profile of any list of numbers. Here, in order: Basin, basin_number, basin_place, basin_count; basin_check,
+// answer_by, check_basin.
 ghost use mathlib.Core.Path.{_≡_};
 ghost use Rattle.basin.specs.Basin.{basinNumberOf, basinPlaceOf, basinCountOf};
-ghost use Rattle.basin.specs.Basin.{gridNumbered, basinCheck, basinOf};
+ghost use Rattle.basin.specs.Basin.{basinCheck, basinOf};
 use crate::pairs::FirstPair;
 use crate::pairs::first_pair;
 use answer::Check;
 use answer::fails_if;
 use polygon::checks::polygon_check;
 use polygon::grids::grid_check;
-use sphere::point::Grid;
+use sphere::point::grid_numbered;
 
 // What is said of a list: it is simple; an edge shares a point with a later one; or a line refuses it.
 // `specs/Basin.antt` gives number, place and count for each case.
@@ -47,15 +47,6 @@ pub fn basin_count(basin: Basin) -> u32
         Basin::Sharing(_, second) => second,
         Basin::Refused(_, _) => 0,
     }
-}
-
-pub fn grid_numbered(number: u32) -> Grid
-    ensures { λ r. ⌜ r ≡ gridNumbered number ⌝ }
-{
-    if number == 0 {
-        return Grid::Coarse;
-    }
-    Grid::Fine
 }
 
 // 10, 28, 11 to 14, 34.

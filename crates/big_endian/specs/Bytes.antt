@@ -1,6 +1,6 @@
 -- Document 01, 'The zone sheet': numbers in a list of bytes, big-endian, coordinates in two's complement.
 -- Defined, in order: reading: byteAt, shortAt, wordAt, signed, intAt, pointAt, intsAt; writing: shortBytes, wordBytes,
--- wordOf, intBytes, intsBytes, numbersOf, pointBytes; and AreBytes. A byte past the end of a list reads as 0. Laws:
+-- wordOf, intBytes, intsBytes, numbersOf, pointBytes, rowsOf; and AreBytes. A byte past the end of a list reads as 0. Laws:
 -- proofs/Laws.
 use mathlib.Core.Bool.{cond}
 use mathlib.Core.List.{List, [], _∷_, _++_}
@@ -63,6 +63,11 @@ numbersOf p = p .x ∷ p .y ∷ p .z ∷ []
 
 abbrev pub pointBytes : Point → List ℕ
 pointBytes p = intsBytes (numbersOf p)
+
+-- The first n rows of bytes, one behind the other.
+unfoldable pub rowsOf : (ℕ → List ℕ) → ℕ → List ℕ
+rowsOf row zero = []
+rowsOf row (suc n) = rowsOf row n ++ row n
 
 -- ---- what a lent slice of bytes is known to hold
 

@@ -5,7 +5,7 @@
 -- query is opposite that, by the second one (document 02, P4); resultsAfter is of a feed that has none.
 use mathlib.Core.Bool.{not}
 use mathlib.Core.List.{List, [], _∷_, _++_}
-use Prim.Native.Nat.{ℕ, zero, suc, _*_, _/_, _%_}
+use Prim.Native.Nat.{ℕ, _*_, _/_, _%_}
 use lib.Dec.{eqb, ltb}
 use lib.IntN.{ℤ}
 use lib.ListN.{length}
@@ -14,6 +14,7 @@ use Rattle.sphere.specs.declared.point.Grid.{Grid}
 use Rattle.sphere.specs.declared.point.GridPoint.{GridPoint}
 use Rattle.sphere.specs.Point.{limitOf}
 use Rattle.big_endian.specs.Bytes.{pointAt, wordBytes}
+unfoldable pub use Rattle.big_endian.specs.Bytes.{rowsOf as resultsBytes}
 use Rattle.answer.specs.declared.Answer.{Answer}
 use Rattle.answer.specs.declared.Answer.the-variants.{Done}
 use Rattle.answer.specs.declared.Check.{Check}
@@ -65,11 +66,7 @@ abbrev pub resultOf : ℕ → List ℤ → Point → Point → List ℕ → ℕ 
 resultOf limit vs X Y queries i =
     resultBytes (answerOf limit vs (judgeFrom X Y (queryAt queries i)) (queryAt queries i))
 
--- The first n of them, in order.
-unfoldable pub resultsBytes : (ℕ → List ℕ) → ℕ → List ℕ
-resultsBytes result zero = []
-resultsBytes result (suc n) = resultsBytes result n ++ result n
-
+-- All of them, in order.
 unfoldable pub feedBytes : ℕ → List ℤ → Point → Point → List ℕ → List ℕ
 feedBytes limit vs X Y queries = resultsBytes (resultOf limit vs X Y queries) (queryCount queries)
 

@@ -11,16 +11,16 @@ use lib.IntN.{ℤ}
 use lib.ListN.{length, take}
 use lib.Seq.{length-take-le, take-all}
 use Rattle.sphere.specs.declared.point.Point.{Point}
-use Rattle.sphere.specs.declared.point.Grid.the-variants.{Coarse}
-use Rattle.sphere.specs.Point.{coarse}
+use Rattle.sphere.specs.declared.point.Grid.{Grid}
 use Rattle.answer.specs.declared.Check.{Check}
 use Rattle.answer.specs.declared.Check.the-variants.{Passed, Failed}
 use Rattle.answer.specs.Chain.{_then_, failsIf, failsHere}
 use Rattle.polygon.specs.Checks.{listCheck, polygonCheck, acceptCheck}
 use Rattle.polygon.specs.Grids.{gridCheck}
 use Rattle.polygon.specs.Pair.{noSecond}
+use Rattle.polygon.specs.GridClaims.{on}
 use Rattle.fields.specs.Fields.{isCharset, isNameLength}
-use Rattle.geojson.specs.Import.{onCoarse, coarseWriteOf, coarseWrittenTo}
+use Rattle.geojson.specs.Import.{plainWriteOf, plainWrittenTo}
 use Rattle.sheet.specs.Write.{bytesNeeded, inputCheck, writeCheck, writeOf, writtenTo}
 
 -- What the writer says of a list that is too long.
@@ -48,15 +48,15 @@ refusal Passed Passed = record { number = 10; place = 0; is = refl }
 refusal Passed (Failed n p) = record { number = n; place = p; is = refl }
 refusal (Failed n p) b = record { number = n; place = p; is = refl }
 
-module _ (charset : ℕ) (name : List ℕ) (known : Point) where
-  input-long : (vs : List ℤ) → 4096 < length vs / 3 → inputCheck charset name (onCoarse known) Coarse vs
-      (onCoarse noSecond) ≡ tooLong charset name
+module _ (g : Grid) (charset : ℕ) (name : List ℕ) (known : Point) where
+  input-long : (vs : List ℤ) → 4096 < length vs / 3 → inputCheck charset name (on g known) g vs
+      (on g noSecond) ≡ tooLong charset name
   unfolding inputCheck gridCheck listCheck
   input-long vs h =
       rw (last-false (eqb (length vs % 3) 0) (leb 3 (length vs / 3)) (leb (length vs / 3) 4096) (lt-leb _ _ h))
 
   pub write-long : (vs : List ℤ) (room : ℕ) → 4096 < length vs / 3 →
-      writeCheck charset name (onCoarse known) Coarse vs (onCoarse noSecond) room ≡ tooLong charset name
+      writeCheck charset name (on g known) g vs (on g noSecond) room ≡ tooLong charset name
   unfolding writeCheck
   write-long vs room h =
       rw (input-long vs h)
@@ -67,19 +67,19 @@ module _ (charset : ℕ) (name : List ℕ) (known : Point) where
   refused = refusal (failsIf 23 (not (isCharset charset))) (failsIf 22 (not (isNameLength (length name))))
 
   failed : (vs : List ℤ) (room : ℕ) → 4096 < length vs / 3 →
-      writeCheck charset name (onCoarse known) Coarse vs (onCoarse noSecond) room ≡ Failed (refused .number)
+      writeCheck charset name (on g known) g vs (on g noSecond) room ≡ Failed (refused .number)
       (refused .place)
   failed vs room h = write-long vs room h ∙ refused .is
 
   same-answer : (vs ws : List ℤ) (room : ℕ) → 4096 < length vs / 3 → 4096 < length ws / 3 →
-      coarseWriteOf charset name known vs room
-      ≡ coarseWriteOf charset name known ws room
+      plainWriteOf g charset name known vs room
+      ≡ plainWriteOf g charset name known ws room
   unfolding writeOf
   same-answer vs ws room g h = rw (failed vs room g, failed ws room h)
 
   same-buffer : (zone : ℕ) (vs ws : List ℤ) (buffer : List ℕ) → 4096 < length vs / 3 → 4096 < length ws / 3 →
-      coarseWrittenTo zone charset name known vs buffer
-      ≡ coarseWrittenTo zone charset name known ws buffer
+      plainWrittenTo g zone charset name known vs buffer
+      ≡ plainWrittenTo g zone charset name known ws buffer
   unfolding writtenTo
   same-buffer zone vs ws buffer g h = rw (failed vs (length buffer) g, failed ws (length buffer) h)
 
@@ -91,26 +91,26 @@ module _ (charset : ℕ) (name : List ℕ) (known : Point) where
     long h = let l = length-take-le (min n 4097 * 3) vs (omega arith) in omega arith
 
     pub cut-answer : (room : ℕ) →
-        coarseWriteOf charset name known (take (min n 4097 * 3) vs) room
-        ≡ coarseWriteOf charset name known vs room
+        plainWriteOf g charset name known (take (min n 4097 * 3) vs) room
+        ≡ plainWriteOf g charset name known vs room
     cut-answer room = go (leb n 4097) refl
       where
         go : (t : Bool) → leb n 4097 ≡ t →
-            coarseWriteOf charset name known (take (min n 4097 * 3) vs) room
-            ≡ coarseWriteOf charset name known vs room
+            plainWriteOf g charset name known (take (min n 4097 * 3) vs) room
+            ≡ plainWriteOf g charset name known vs room
         go true e = rw (whole (leb-true n 4097 e))
         go false e =
             let h = leb-false n 4097 e in
             same-answer (take (min n 4097 * 3) vs) vs room (long h) (omega arith)
 
     pub cut-buffer : (zone : ℕ) (buffer : List ℕ) →
-        coarseWrittenTo zone charset name known (take (min n 4097 * 3) vs) buffer
-        ≡ coarseWrittenTo zone charset name known vs buffer
+        plainWrittenTo g zone charset name known (take (min n 4097 * 3) vs) buffer
+        ≡ plainWrittenTo g zone charset name known vs buffer
     cut-buffer zone buffer = go (leb n 4097) refl
       where
         go : (t : Bool) → leb n 4097 ≡ t →
-            coarseWrittenTo zone charset name known (take (min n 4097 * 3) vs) buffer
-            ≡ coarseWrittenTo zone charset name known vs buffer
+            plainWrittenTo g zone charset name known (take (min n 4097 * 3) vs) buffer
+            ≡ plainWrittenTo g zone charset name known vs buffer
         go true e = rw (whole (leb-true n 4097 e))
         go false e =
             let h = leb-false n 4097 e in

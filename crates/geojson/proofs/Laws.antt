@@ -11,6 +11,7 @@ use lib.Dec.{ltb, leb}
 use lib.IntN.{ℤ, pos}
 use lib.ListN.{length, getD, take, drop, length-append}
 use lib.Seq.{sets, sets-eq, length-sets, length-take-le, take-all, take-append-le, take-at, take-take, take-nil}
+use Rattle.sphere.specs.declared.point.Grid.{Grid}
 use Rattle.answer.specs.declared.Found.{Found}
 use Rattle.answer.specs.declared.Found.the-variants.{Nothing, At}
 use Rattle.answer.specs.declared.Check.{Check}
@@ -32,8 +33,8 @@ use Rattle.positions.proofs.Exact.{held-check, held-length, held-same}
 use Rattle.geojson.specs.declared.scan.Reader.{Reader}
 use Rattle.geojson.specs.declared.scan.Scanned.{Scanned}
 use Rattle.geojson.specs.declared.scan.Scanned.the-variants.{Kept, Refused}
-use Rattle.angles.specs.Point.{gridNumbersOf}
-use Rattle.geojson.specs.Scan.{numbersOf, textCheck, importCheck, verticesOf, putOf, stepOf, outOf, finishOf}
+use Rattle.angles.specs.Point.{numbersOn}
+use Rattle.geojson.specs.Scan.{listOn, textCheck, importCheck, verticesOn, putOf, stepOf, outOf, finishOf}
 use Rattle.geojson.specs.Scan.{scannedOf, Listed}
 use Rattle.geojson.specs.Scan.{scannedAfter, unread, startOf}
 
@@ -58,96 +59,96 @@ step-reader text i = go (walked held text i) (getD text i 0) (isEnd (walked held
 
 -- ---- three numbers for each position
 
-pub numbers-length : (ps : List Position) → length (numbersOf ps) ≡ length ps * 3
-unfolding numbersOf
-numbers-length [] = refl
-numbers-length (p ∷ ps) = let e = numbers-length ps in omega arith
+pub numbers-length : (g : Grid) (ps : List Position) → length (listOn g ps) ≡ length ps * 3
+unfolding listOn
+numbers-length g [] = refl
+numbers-length g (p ∷ ps) = let e = numbers-length g ps in omega arith
 
-pub numbers-append : (ps qs : List Position) → numbersOf (ps ++ qs) ≡ numbersOf ps ++ numbersOf qs
-unfolding numbersOf
-numbers-append [] qs = refl
-numbers-append (p ∷ ps) qs =
-    ap (λ (l : List ℤ). gridNumbersOf p .x ∷ gridNumbersOf p .y ∷ gridNumbersOf p .z ∷ l) (numbers-append ps qs)
+pub numbers-append : (g : Grid) (ps qs : List Position) → listOn g (ps ++ qs) ≡ listOn g ps ++ listOn g qs
+unfolding listOn
+numbers-append g [] qs = refl
+numbers-append g (p ∷ ps) qs =
+    ap (λ (l : List ℤ). numbersOn g p .x ∷ numbersOn g p .y ∷ numbersOn g p .z ∷ l) (numbers-append g ps qs)
 
-pub numbers-take : (n : ℕ) (ps : List Position) → numbersOf (take n ps) ≡ take (n * 3) (numbersOf ps)
-unfolding numbersOf
-numbers-take zero ps = refl
-numbers-take (suc n) [] = sym (take-nil (suc n * 3))
-numbers-take (suc n) (p ∷ ps) =
+pub numbers-take : (g : Grid) (n : ℕ) (ps : List Position) → listOn g (take n ps) ≡ take (n * 3) (listOn g ps)
+unfolding listOn
+numbers-take g zero ps = refl
+numbers-take g (suc n) [] = sym (take-nil (suc n * 3))
+numbers-take g (suc n) (p ∷ ps) =
     let e : suc n * 3 ≡ suc (suc (suc (n * 3))) = omega arith in
-    rw e (ap (λ (l : List ℤ). gridNumbersOf p .x ∷ gridNumbersOf p .y ∷ gridNumbersOf p .z ∷ l) (numbers-take n ps))
+    rw e (ap (λ (l : List ℤ). numbersOn g p .x ∷ numbersOn g p .y ∷ numbersOn g p .z ∷ l) (numbers-take g n ps))
 
 -- ---- the list, filled
 
-pub record Filled (out : List ℤ) (ps : List Position) : Type 0 where
+pub record Filled (g : Grid) (out : List ℤ) (ps : List Position) : Type 0 where
   pub size : length out ≡ 12291
-  pub front : take (min (length ps) 4097 * 3) out ≡ take (min (length ps) 4097 * 3) (numbersOf ps)
+  pub front : take (min (length ps) 4097 * 3) out ≡ take (min (length ps) 4097 * 3) (listOn g ps)
 
-pub filled-none : (out : List ℤ) → length out ≡ 12291 → Filled out []
-unfolding numbersOf
-filled-none out h = record { size = h; front = refl }
+pub filled-none : (g : Grid) (out : List ℤ) → length out ≡ 12291 → Filled g out []
+unfolding listOn
+filled-none g out h = record { size = h; front = refl }
 
-three : (p : Position) → length (numbersOf (p ∷ [])) ≡ 3
-three p = numbers-length (p ∷ [])
+three : (g : Grid) (p : Position) → length (listOn g (p ∷ [])) ≡ 3
+three g p = numbers-length g (p ∷ [])
 
-module _ (out : List ℤ) (ps : List Position) (p : Position) (f : Filled out ps) where
+module _ (g : Grid) (out : List ℤ) (ps : List Position) (p : Position) (f : Filled g out ps) where
   count : length (ps ++ (p ∷ [])) ≡ length ps + 1
   count = length-append ps (p ∷ [])
 
-  filled-in : length ps < 4097 → Filled (sets out (length ps * 3) (numbersOf (p ∷ []))) (ps ++ (p ∷ []))
+  filled-in : length ps < 4097 → Filled g (sets out (length ps * 3) (listOn g (p ∷ []))) (ps ++ (p ∷ []))
   filled-in h =
       let n = length ps in
-      let vs = numbersOf (p ∷ []) in
+      let vs = listOn g (p ∷ []) in
       let z = f .size in
-      let t = three p in
+      let t = three g p in
       let m : min n 4097 ≡ n = omega arith in
       let m' : min (n + 1) 4097 ≡ n + 1 = omega arith in
       let l : length (take (n * 3) out) ≡ n * 3 = length-take-le (n * 3) out (omega arith) in
-      let same : take (n * 3) out ≡ numbersOf ps =
-      rw m at (f .front) ∙ take-all (n * 3) (numbersOf ps) (omega (arith, numbers-length ps)) in
-      let left : take ((n + 1) * 3) (sets out (n * 3) vs) ≡ numbersOf ps ++ vs =
+      let same : take (n * 3) out ≡ listOn g ps =
+      rw m at (f .front) ∙ take-all (n * 3) (listOn g ps) (omega (arith, numbers-length g ps)) in
+      let left : take ((n + 1) * 3) (sets out (n * 3) vs) ≡ listOn g ps ++ vs =
       ap (take ((n + 1) * 3)) (sets-eq vs out (n * 3) (omega arith))
       ∙ take-at (take (n * 3) out ++ vs) (drop (n * 3 + length vs) out) ((n + 1) * 3)
       (length-append (take (n * 3) out) vs ∙ omega arith)
       ∙ ap (λ (r : List ℤ). r ++ vs) same in
-      let right : take ((n + 1) * 3) (numbersOf (ps ++ (p ∷ []))) ≡ numbersOf ps ++ vs =
-      take-all ((n + 1) * 3) (numbersOf (ps ++ (p ∷ []))) (omega (arith, numbers-length (ps ++ (p ∷ [])), count))
-      ∙ numbers-append ps (p ∷ []) in
+      let right : take ((n + 1) * 3) (listOn g (ps ++ (p ∷ []))) ≡ listOn g ps ++ vs =
+      take-all ((n + 1) * 3) (listOn g (ps ++ (p ∷ []))) (omega (arith, numbers-length g (ps ++ (p ∷ [])), count))
+      ∙ numbers-append g ps (p ∷ []) in
       record {
         size = length-sets out (n * 3) vs ∙ z;
         front = rw (count, m') (left ∙ sym right);
       }
 
-  filled-over : 4097 ≤ length ps → Filled out (ps ++ (p ∷ []))
+  filled-over : 4097 ≤ length ps → Filled g out (ps ++ (p ∷ []))
   filled-over h =
       let n = length ps in
       let m : min n 4097 ≡ 4097 = omega arith in
       let m' : min (n + 1) 4097 ≡ 4097 = omega arith in
-      let shorter : take (4097 * 3) (numbersOf (ps ++ (p ∷ []))) ≡ take (4097 * 3) (numbersOf ps) =
-      ap (take (4097 * 3)) (numbers-append ps (p ∷ []))
-      ∙ take-append-le (4097 * 3) (numbersOf ps) (numbersOf (p ∷ [])) (omega (arith, numbers-length ps)) in
+      let shorter : take (4097 * 3) (listOn g (ps ++ (p ∷ []))) ≡ take (4097 * 3) (listOn g ps) =
+      ap (take (4097 * 3)) (numbers-append g ps (p ∷ []))
+      ∙ take-append-le (4097 * 3) (listOn g ps) (listOn g (p ∷ [])) (omega (arith, numbers-length g ps)) in
       record { size = f .size; front = rw (count, m') (rw m at (f .front) ∙ sym shorter) }
 
-  pub filled-more : Filled (putOf out (length ps) p) (ps ++ (p ∷ []))
+  pub filled-more : Filled g (putOf g out (length ps) p) (ps ++ (p ∷ []))
   unfolding putOf
   filled-more = go (ltb (length ps) 4097) refl
     where
       go : (t : Bool) → ltb (length ps) 4097 ≡ t →
-          Filled (cond t (sets out (length ps * 3) (numbersOf (p ∷ []))) out) (ps ++ (p ∷ []))
+          Filled g (cond t (sets out (length ps * 3) (listOn g (p ∷ []))) out) (ps ++ (p ∷ []))
       go true e = filled-in (ltb-true (length ps) 4097 e)
       go false e = filled-over (ltb-false (length ps) 4097 e)
 
-pub step-filled : (text : List ℕ) (i : ℕ) (out : List ℤ) → Filled out (walked held text i .done) →
-    Filled (outOf (readerAt text i) (getD text i 0) out) (walked held text (suc i) .done)
+pub step-filled : (g : Grid) (text : List ℕ) (i : ℕ) (out : List ℤ) → Filled g out (walked held text i .done) →
+    Filled g (outOf g (readerAt text i) (getD text i 0) out) (walked held text (suc i) .done)
 unfolding outOf walked stepped
-step-filled text i out f =
+step-filled g text i out f =
     go (walked held text i) (getD text i 0) (isEnd (walked held text i .pending) (getD text i 0)) f
   where
-    go : (w : Walk) (b : ℕ) (t : Bool) → Filled out (w .done) →
-        Filled (cond t (putOf out (length (w .done)) (positionOf (w .pending))) out)
+    go : (w : Walk) (b : ℕ) (t : Bool) → Filled g out (w .done) →
+        Filled g (cond t (putOf g out (length (w .done)) (positionOf (w .pending))) out)
         ((cond {A = Walk} t (record { pending = fresh; done = w .done ++ (positionOf (w .pending) ∷ []) })
         (record { pending = pendingOf held (w .pending) b; done = w .done })) .done)
-    go w b true f = filled-more out (w .done) (positionOf (w .pending)) f
+    go w b true f = filled-more g out (w .done) (positionOf (w .pending)) f
     go w b false f = f
 
 -- ---- decimals at once
@@ -160,9 +161,9 @@ run-reader text i k r p d e f =
     ∙ ap (λ (q : Reader). record { pending = onward text i (q .pending) k; ring = q .ring }) e
     ∙ ap (λ (q : Walk). record { pending = q .pending; ring = ringOf (q .done) }) (sym w)
 
-pub run-filled : (text : List ℕ) (i k : ℕ) (out : List ℤ) → DigitRun text i k → Filled out (walked held text i .done) →
-    Filled out (walked held text (i + k) .done)
-run-filled text i k out d f = rw (run-walked text i k d) f
+pub run-filled : (g : Grid) (text : List ℕ) (i k : ℕ) (out : List ℤ) → DigitRun text i k → Filled g out (walked held text i .done) →
+    Filled g out (walked held text (i + k) .done)
+run-filled g text i k out d f = rw (run-walked text i k d) f
 
 -- ---- the end
 
@@ -206,10 +207,10 @@ passed-ring : (text : List ℕ) → importCheck text ≡ Passed → ringCheck (p
 unfolding importCheck
 passed-ring text e = second (textCheck text) (ringCheck (positionsOf text)) e
 
-kept-front : (out : List ℤ) (ps : List Position) → Filled out ps →
-    take (min (length ps - 1) 4097 * 3) out ≡ take (min (length ps - 1) 4097 * 3) (numbersOf (keptOf ps))
+kept-front : (g : Grid) (out : List ℤ) (ps : List Position) → Filled g out ps →
+    take (min (length ps - 1) 4097 * 3) out ≡ take (min (length ps - 1) 4097 * 3) (listOn g (keptOf ps))
 unfolding keptOf
-kept-front out ps f =
+kept-front g out ps f =
     let n = length ps in
     let m = min (n - 1) 4097 * 3 in
     let k = min n 4097 * 3 in
@@ -217,18 +218,18 @@ kept-front out ps f =
     let j : m ≤ (n - 1) * 3 = omega arith in
     sym (take-take m k out h)
     ∙ ap (take m) (f .front)
-    ∙ take-take m k (numbersOf ps) h
-    ∙ sym (take-take m ((n - 1) * 3) (numbersOf ps) j)
-    ∙ ap (take m) (sym (numbers-take (n - 1) ps))
+    ∙ take-take m k (listOn g ps) h
+    ∙ sym (take-take m ((n - 1) * 3) (listOn g ps) j)
+    ∙ ap (take m) (sym (numbers-take g (n - 1) ps))
 
-pub listed : (s : Scanned) (text : List ℕ) (out : List ℤ) → s ≡ scannedOf text →
-    Filled out (walked held text (length text) .done) → Listed s text out
-unfolding scannedOf verticesOf
-listed (Refused number place) text out e f = f .size
-listed (Kept n) text out e f =
+pub listed : (g : Grid) (s : Scanned) (text : List ℕ) (out : List ℤ) → s ≡ scannedOf text →
+    Filled g out (walked held text (length text) .done) → Listed g s text out
+unfolding scannedOf verticesOn
+listed g (Refused number place) text out e f = f .size
+listed g (Kept n) text out e f =
     let k = kept-check (importCheck text) (length (positionsOf text) - 1) n (sym e) in
     let is = held-same text (passed-ring text (k .0)) in
-    (f .size, rw (k .1) (kept-front out (positionsOf text) (rw is at f)))
+    (f .size, rw (k .1) (kept-front g out (positionsOf text) (rw is at f)))
 
 -- ---- the start
 
@@ -236,6 +237,6 @@ pub start-reader : (text : List ℕ) → startOf ≡ readerAt text 0
 unfolding walked firstOf lastOf lastAfter firstOutside firstDistant
 start-reader text = refl
 
-pub start-filled : (text : List ℕ) (out : List ℤ) → length out ≡ 12291 → Filled out (walked held text 0 .done)
+pub start-filled : (g : Grid) (text : List ℕ) (out : List ℤ) → length out ≡ 12291 → Filled g out (walked held text 0 .done)
 unfolding walked
-start-filled text out h = filled-none out h
+start-filled g text out h = filled-none g out h

@@ -10,7 +10,7 @@ use crate::ahead::Reached;
 use crate::ahead::ahead;
 use angles::point::GridNumbers;
 use angles::point::Position;
-use angles::point::grid_numbers;
+use angles::point::numbers_on;
 use answer::Check;
 use positions::grammar;
 use positions::grammar::State;
@@ -18,6 +18,7 @@ use positions::number;
 use positions::number::Pending;
 use positions::ring;
 use positions::ring::Ring;
+use sphere::point::Grid;
 
 pub struct Reader {
     pub pending: Pending,
@@ -31,12 +32,12 @@ pub enum Scanned {
 }
 
 // The grid numbers of position k, if it is among the first 4,097.
-fn put(out: &mut [i32], k: usize, p: Position)
+fn put(grid: Grid, out: &mut [i32], k: usize, p: Position)
     requires { ⌜ length (now out) ≡ 12291 ⌝ }
-    ensures { λ _. ⌜ now (out .exit) ≡ putOf (now (out .entry)) k p ⌝ }
+    ensures { λ _. ⌜ now (out .exit) ≡ putOf grid (now (out .entry)) k p ⌝ }
 {
     if k < 4097 {
-        let GridNumbers { x, y, z } = grid_numbers(p);
+        let GridNumbers { x, y, z } = numbers_on(grid, p);
         let at = k * 3;
         out[at] = x;
         out[at + 1] = y;
@@ -62,10 +63,10 @@ fn start() -> Reader
 }
 
 // One byte more. Most are digits.
-fn step(r: Reader, b: u8, out: &mut [i32]) -> Reader
+fn step(grid: Grid, r: Reader, b: u8, out: &mut [i32]) -> Reader
     requires { ⌜ (length (now out) ≡ 12291) × Small (r .pending) × (r .ring .count + 1 ≤ 18446744073709551615) ⌝ }
     ensures { λ s. ⌜ s ≡ stepOf r b ⌝ }
-    ensures { λ _. ⌜ now (out .exit) ≡ outOf r b (now (out .entry)) ⌝ }
+    ensures { λ _. ⌜ now (out .exit) ≡ outOf grid r b (now (out .entry)) ⌝ }
 {
     let pending = r.pending;
     let ring = r.ring;
@@ -78,7 +79,7 @@ fn step(r: Reader, b: u8, out: &mut [i32]) -> Reader
     }
     if number::ends(pending, b) {
         let p = number::whole(pending);
-        put(out, ring.count, p);
+        put(grid, out, ring.count, p);
         let more = ring::added(ring, p);
         let fresh = Pending {
             negative: false,
@@ -121,10 +122,16 @@ fn resumed(r: Reader, pending: Pending) -> Reader
 }
 
 // The whole text, with the text machine's two tables.
-fn scan_with(classes: &[u64; 256], table: &[u64; 261], text: &[u8], out: &mut [i32]) -> Scanned
+fn scan_with(
+    classes: &[u64; 256],
+    table: &[u64; 261],
+    grid: Grid,
+    text: &[u8],
+    out: &mut [i32],
+) -> Scanned
     requires { ⌜ (length (now out) ≡ 12291) × (now classes ≡ classTable) × (now table ≡ rows) ⌝ }
     ensures { λ r. ⌜ r ≡ scannedOf (now (text .entry)) ⌝ }
-    ensures { λ r. ⌜ Listed r (now (text .entry)) (now (out .exit)) ⌝ }
+    ensures { λ r. ⌜ Listed grid r (now (text .entry)) (now (out .exit)) ⌝ }
 {
     let mut s = State { at: 0, ring: 0 };
     let mut r = start();
@@ -136,7 +143,7 @@ fn scan_with(classes: &[u64; 256], table: &[u64; 261], text: &[u8], out: &mut [i
         if at == 76 {
             return Scanned::Refused(30, i);
         }
-        r = step(r, b, out);
+        r = step(grid, r, b, out);
         let Reached { at, state, pending } = ahead(text, i + 1, s, r.pending);
         s = state;
         r = resumed(r, pending);
@@ -153,12 +160,12 @@ fn scan_with(classes: &[u64; 256], table: &[u64; 261], text: &[u8], out: &mut [i
 }
 
 // The tables are laid out once.
-pub fn scan(text: &[u8], out: &mut [i32]) -> Scanned
+pub fn scan(grid: Grid, text: &[u8], out: &mut [i32]) -> Scanned
     requires { ⌜ length (now out) ≡ 12291 ⌝ }
     ensures { λ r. ⌜ r ≡ scannedOf (now (text .entry)) ⌝ }
-    ensures { λ r. ⌜ Listed r (now (text .entry)) (now (out .exit)) ⌝ }
+    ensures { λ r. ⌜ Listed grid r (now (text .entry)) (now (out .exit)) ⌝ }
 {
     let classes = grammar::class_table();
     let table = grammar::ring_table();
-    scan_with(&classes, &table, text, out)
+    scan_with(&classes, &table, grid, text, out)
 }

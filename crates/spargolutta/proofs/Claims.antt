@@ -9,7 +9,7 @@ use lib.Dec.{ltb, lit<}
 use lib.ListN.{length, drop}
 use lib.Seq.{take-at}
 use Rattle.sphere.specs.declared.point.Point.{Point}
-use Rattle.sphere.specs.Point.{isNull}
+use Rattle.sphere.specs.Point.{isGridNumber, gridNumbered, isNull}
 use Rattle.answer.specs.declared.Answer.the-variants.{Done}
 use Rattle.answer.specs.declared.Check.{Check}
 use Rattle.answer.specs.declared.Check.the-variants.{Passed, Failed}
@@ -17,7 +17,6 @@ use Rattle.answer.specs.Answer.{numberOf, answerAfter}
 use Rattle.answer.proofs.Laws.Numbers.{Numbered, _both_, here-numbered}
 use Rattle.polygon.specs.Grids.{isMixed, gridOfSecond}
 use Rattle.polygon.specs.GridClaims.{on}
-use Rattle.basin.specs.Basin.{isGridNumber, gridNumbered}
 use Rattle.fields.specs.Fields.{verticesStart}
 use Rattle.fields.proofs.Laws.Fields.{passed-spans}
 use Rattle.sheet.specs.Sheet.{vertexCountOf, verticesOf, sheetCheck}

@@ -11,7 +11,7 @@ use Rattle.answer.specs.Answer.{numberOf, placeOf}
 use Rattle.answer.specs.Chain.{_then_, failsIf}
 use Rattle.polygon.specs.Checks.{listCheck}
 use Rattle.polygon.specs.GridClaims.{Mixed}
-use Rattle.basin.specs.Basin.{isGridNumber, gridNumbered}
+use Rattle.sphere.specs.Point.{isGridNumber, gridNumbered}
 use Rattle.fields.specs.Fields.{isCharset, isNameLength}
 use Rattle.sheet.specs.Claims.{ReadsAs}
 use Rattle.sheet.specs.Sheet.{verticesOf, readOf}

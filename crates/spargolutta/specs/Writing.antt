@@ -12,7 +12,7 @@ use Rattle.sphere.specs.declared.point.Grid.{Grid}
 use Rattle.sphere.specs.declared.point.Grid.the-variants.{Coarse, Fine}
 use Rattle.answer.specs.declared.Answer.{Answer}
 use Rattle.polygon.specs.GridClaims.{on}
-use Rattle.basin.specs.Basin.{gridNumbered}
+use Rattle.sphere.specs.Point.{gridNumbered}
 use Rattle.sheet.specs.Write.{writeOf, writtenTo}
 use Rattle.spargolutta.specs.Outline.{outlineOf}
 

@@ -156,7 +156,7 @@ fn letters() -> [u8; 783]
         unknown character set\
         bytes after the last field\
         buffer too short for the sheet\
-        queries not whole twelves\
+        query or position cut off\
         result buffer too short\
         grid mixed or unknown\
         not one GeoJSON Polygon of the kind that is read\

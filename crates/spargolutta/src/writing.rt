@@ -12,13 +12,13 @@ use crate::query;
 use answer::Answer;
 use answer::number;
 use answer::place;
-use basin::profile::grid_numbered;
 use big_endian::read::decode;
 use sheet::write::write;
 use sheet::write::write_answer;
 use sphere::point::Grid;
 use sphere::point::GridPoint;
 use sphere::point::Point;
+use sphere::point::grid_numbered;
 
 fn point_grid(grid: u32) -> Grid
     ensures { λ r. ⌜ r ≡ pointGrid grid ⌝ }

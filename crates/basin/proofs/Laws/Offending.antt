@@ -15,7 +15,7 @@ use Rattle.integers.proofs.Identity.{_:+_, _:*_}
 use Rattle.integers.proofs.Sign.{is, equal, eq, gt}
 use Rattle.integers.proofs.Table.{table, shown, not-true}
 use Rattle.sphere.specs.declared.point.Point.{Point}
-use Rattle.sphere.specs.Point.{limitOf}
+use Rattle.sphere.specs.Point.{limitOf, isGridNumber, gridNumbered}
 use Rattle.sphere.specs.Orientation.{orientationOf}
 use Rattle.sphere.specs.Crossing.{isBeside}
 use Rattle.sphere.specs.Direction.{isSameDirection}
@@ -30,7 +30,7 @@ use Rattle.polygon.specs.Grids.{gridCheck}
 use Rattle.polygon.proofs.Laws.Checks.{polygon-passed}
 use Rattle.basin.specs.Shared.{Shared, isShared, isSharedBeyond}
 use Rattle.basin.specs.Pairs.{isOffending}
-use Rattle.basin.specs.Basin.{isGridNumber, gridNumbered, basinCheck}
+use Rattle.basin.specs.Basin.{basinCheck}
 use Rattle.basin.specs.Claims.{Offends}
 use Rattle.basin.proofs.Laws.Apart.{next-is, last-is, next-decided, last-decided, pair-decided}
 

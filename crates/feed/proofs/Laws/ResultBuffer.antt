@@ -9,6 +9,7 @@ use lib.IntN.{ℤ}
 use lib.ListN.{length, drop}
 use lib.Seq.{sets, sets-eq, length-sets, drop-at}
 use Rattle.sphere.specs.declared.point.Point.{Point}
+use Rattle.big_endian.proofs.Laws.RowBytes.{rows-length, row-at}
 use Rattle.answer.specs.declared.Check.the-variants.{Passed}
 use Rattle.answer.specs.declared.Answer.{Answer}
 use Rattle.polygon.specs.Verdict.{answerOf}
@@ -18,13 +19,13 @@ use Rattle.feed.specs.Feed.{queryCount, queryAt, roomNeeded, resultOf, f
 use Rattle.feed.specs.Claims.{Encodes, HoldsResults}
 use Rattle.feed.proofs.Laws.Small.{answer-small}
 use Rattle.polygon.proofs.Laws.Pair.{judge-accepted}
-use Rattle.feed.proofs.Laws.Results.{resultBytes-length, resultsBytes-length, result-at, result-read}
+use Rattle.feed.proofs.Laws.Results.{resultBytes-length, result-read}
 
 module _ (limit : ℕ) (vs : List ℤ) (X Y : Point) (queries : List ℕ) where
   pub feedBytes-length : length (feedBytes limit vs X Y queries) ≡ roomNeeded queries
   unfolding feedBytes
   feedBytes-length =
-      resultsBytes-length (resultOf limit vs X Y queries) (λ i. resultBytes-length _) (queryCount queries)
+      rows-length 12 (resultOf limit vs X Y queries) (λ i. resultBytes-length _) (queryCount queries)
 
   module _ (buffer : List ℕ) where
     -- The results in front, the rest as it was.
@@ -53,7 +54,7 @@ module _ (limit : ℕ) (vs : List ℤ) (X Y : Point) (queries : List ℕ) where
             each = λ i h.
                 rw buffer-front
                 (result-read _ _ _ (answer-small limit vs _ (judge-accepted limit vs X Y ok (queryAt queries i)) _)
-                (result-at result (λ j. resultBytes-length _) (queryCount queries) i after h));
+                (row-at 12 result (λ j. resultBytes-length _) (queryCount queries) i after h));
             rest = rw buffer-front
                 (drop-at (feedBytes limit vs X Y queries) after (roomNeeded queries) feedBytes-length);
           }

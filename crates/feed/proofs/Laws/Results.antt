@@ -1,21 +1,17 @@
 -- The bytes of results, stored and read. Proved, in order: resultBytes-length, result-stored (three words);
--- resultsBytes-length, results-more (a turn of the loop), result-at (result i among all); word-behind, result-split,
--- result-read (its words).
+-- word-behind, result-split, result-read (its words).
 use mathlib.Core.Path.{_≡_, refl, sym, ap, _∙_}
-use mathlib.Core.Logic.{⊎-elim}
 use mathlib.Core.List.{List, _++_, append-assoc}
-use Prim.Native.Nat.{ℕ, zero, suc, _+_, _*_, _<_}
-use native.Mathlib.Nat.{eq-or-lt-of-le}
-use native.Mathlib.Numerals.{add-one}
+use Prim.Native.Nat.{ℕ, _+_}
 use native.Mathlib.Omega.{arith}
-use lib.ListN.{length, take, drop, length-append, take-append-drop}
-use lib.Seq.{sets, take-at, drop-at, drop-drop}
+use lib.ListN.{length, take, drop, take-append-drop}
+use lib.Seq.{sets, drop-drop}
 use Rattle.big_endian.specs.Bytes.{wordBytes}
 use Rattle.big_endian.proofs.Laws.Stores.{stored-on}
 use Rattle.big_endian.proofs.Laws.Written.{word-written}
 use Rattle.answer.specs.declared.Answer.{Answer}
 use Rattle.answer.specs.Answer.{numberOf, placeOf, countOf}
-use Rattle.feed.specs.Feed.{resultBytes, resultsBytes}
+use Rattle.feed.specs.Feed.{resultBytes}
 use Rattle.feed.specs.Claims.{Encodes}
 use Rattle.feed.proofs.Laws.Small.{Small}
 
@@ -34,35 +30,6 @@ result-stored l at a =
     let p = wordBytes (placeOf a) in
     let k = wordBytes (countOf a) in
     stored-on (sets l at n) (at + 4) (at + 8) p k (omega arith) ∙ stored-on l at (at + 4) n (p ++ k) (omega arith)
-
--- ---- the first n results, of 12 bytes each
-module _ (result : ℕ → List ℕ) (sized : (i : ℕ) → length (result i) ≡ 12) where
-  pub resultsBytes-length : (n : ℕ) → length (resultsBytes result n) ≡ n * 12
-  unfolding resultsBytes
-  resultsBytes-length zero = refl
-  resultsBytes-length (suc n) =
-      length-append (resultsBytes result n) (result n) ∙ omega (arith, resultsBytes-length n, sized n)
-
-  pub results-more :
-      (l : List ℕ) (i : ℕ) →
-      sets (sets l 0 (resultsBytes result i)) (i * 12) (result i) ≡ sets l 0 (resultsBytes result (i + 1))
-  unfolding resultsBytes
-  results-more l i =
-      rw add-one (stored-on l 0 (i * 12) (resultsBytes result i) (result i) (omega (arith, resultsBytes-length i)))
-
-  -- Result i among all of them, whatever follows.
-  pub result-at : (n i : ℕ) (rest : List ℕ) → i < n →
-      take 12 (drop (i * 12) (resultsBytes result n ++ rest)) ≡ result i
-  unfolding resultsBytes
-  result-at zero i rest h = absurd (omega arith)
-  result-at (suc n) i rest h =
-      rw append-assoc
-      (⊎-elim last (λ l. result-at n i (result n ++ rest) l) (eq-or-lt-of-le {n = i} {m = n} (omega arith)))
-    where
-      last : i ≡ n → take 12 (drop (i * 12) (resultsBytes result n ++ (result n ++ rest))) ≡ result i
-      last e =
-          rw (e, drop-at (resultsBytes result n) (result n ++ rest) (n * 12) (resultsBytes-length n))
-          (take-at (result n) rest 12 (sized n))
 
 -- ---- a result, read
 

@@ -7,7 +7,8 @@ use lib.ListN.{length}
 use lib.Seq.{sets}
 use Rattle.sphere.specs.Point.{limitOf}
 use Rattle.feed.specs.Feed.{queryCount, resultOf, resultsBytes, feedBytes}
-use Rattle.feed.proofs.Laws.Results.{resultBytes-length, results-more}
+use Rattle.big_endian.proofs.Laws.RowBytes.{rows-more}
+use Rattle.feed.proofs.Laws.Results.{resultBytes-length}
 use Rattle.feed.proofs.judge_all.Statement.{statement}
 use Rattle.feed.proofs.judge_all.Tie as tie
 
@@ -51,7 +52,7 @@ loop-again c =
     let l = c .before .before .before .before .before .before .before .before .loop in
     let s = c .before .before .before .before .before .before .before .before .before .before .before .before .before .before .before .before .args in
     let result = resultOf (limitOf (s .grid)) (s .vertices .now) (s .known) (s .second) (s .queries .now) in
-    let more = results-more result (λ i. resultBytes-length _) (s .results .now) (l .i) in
+    let more = rows-more 12 result (λ i. resultBytes-length _) (s .results .now) (l .i) in
     let kept = one .kept .1 .1 .1 .1 .1 .1 .1 in (
       omega arith,
       kept .1 .1 .1 .1 .1 .1 .0 ∙ l .inv .1,

@@ -1,26 +1,15 @@
 -- `basin_check` meets its contract: on each way the checks that passed decide the definition's chain.
-use mathlib.Core.Path.{_≡_, refl, sym, _∙_, ap}
+use mathlib.Core.Path.{_≡_, sym, _∙_, ap}
 use mathlib.Core.Bool.{not}
-use Prim.Native.Nat.{ℕ, zero, suc}
-use native.Mathlib.Omega.{arith}
 use borrow.Author.Needs.{needs}
-use borrow.Author.Tests.{lt-ltb, ne-eqb}
-use lib.Dec.{ltb}
-use Rattle.sphere.specs.Point.{limitOf}
+use Rattle.sphere.specs.Point.{limitOf, isGridNumber, gridNumbered}
+use Rattle.sphere.proofs.Laws.Grid.{past-one}
 use Rattle.answer.specs.declared.Check.the-variants.{Passed}
 use Rattle.polygon.specs.Checks.{polygonCheck}
 use Rattle.polygon.specs.Grids.{gridCheck}
-use Rattle.basin.specs.Basin.{isGridNumber, gridNumbered, basinCheck}
+use Rattle.basin.specs.Basin.{basinCheck}
 use Rattle.basin.proofs.profile.basin_check.Statement.{statement}
 use Rattle.basin.proofs.profile.basin_check.Tie as tie
-
--- Numbers past 1 name no grid.
-past-one : (g : ℕ) → ltb 1 g ≡ not (isGridNumber g)
-past-one zero = refl
-past-one (suc zero) = refl
-past-one (suc (suc g)) =
-    lt-ltb 1 (suc (suc g)) (omega arith)
-    ∙ sym (rw (ne-eqb (suc (suc g)) 0 (λ e. omega arith), ne-eqb (suc (suc g)) 1 (λ e. omega arith)))
 
 grid-check-requires : tie.Need-grid-check-requires
 grid-check-requires c κs = search needs

@@ -4,14 +4,14 @@ use mathlib.Core.Bool.{not}
 use Prim.Native.Nat.{_<_}
 use native.Mathlib.Omega.{arith}
 use borrow.Author.Needs.{needs}
-use Rattle.sphere.specs.Point.{limitOf}
+use Rattle.sphere.specs.Point.{limitOf, gridNumbered}
 use Rattle.answer.specs.declared.Check.the-variants.{Passed}
 use Rattle.polygon.specs.Vertices.{vertexCount}
 use Rattle.polygon.specs.Checks.{polygonCheck}
 use Rattle.polygon.proofs.Laws.Checks.{polygon-passed}
 use Rattle.basin.specs.declared.pairs.FirstPair.the-variants.{Apart, Pair}
 use Rattle.basin.specs.Pairs.{isOffending, firstPairOf}
-use Rattle.basin.specs.Basin.{gridNumbered, basinCheck, basinOf}
+use Rattle.basin.specs.Basin.{basinCheck, basinOf}
 use Rattle.basin.proofs.Laws.FirstPair.{pairs-found}
 use Rattle.basin.proofs.Laws.Offending.{basin-polygon}
 use Rattle.basin.proofs.profile.check_basin.Statement.{statement}

@@ -6,7 +6,7 @@ use native.Mathlib.Omega.{arith}
 use lib.IntN.{ℤ}
 use lib.ListN.{length, take}
 use lib.Seq.{length-take-le}
-use Rattle.geojson.specs.Import.{coarseWriteOf, coarseWrittenTo}
+use Rattle.geojson.specs.Import.{plainWriteOf, plainWrittenTo}
 use Rattle.geojson.proofs.Imports.{row-of, import-refused, buffer-refused, import-kept, buffer-kept}
 use borrow.Author.Needs.{needs}
 use Rattle.geojson.proofs.import.import.Statement.{statement}
@@ -30,19 +30,19 @@ list-size-requires c κs = search needs
 array-share-prefix-list : tie.Need-array-share-prefix-list
 array-share-prefix-list c = search needs
 
-slice-aggregate-write-coarse : tie.Need-slice-aggregate-write-coarse
-slice-aggregate-write-coarse c =
+slice-aggregate-write-plain : tie.Need-slice-aggregate-write-plain
+slice-aggregate-write-plain c =
     let z = c .before .list-size .ensures .1 in
     sym (length-take-le _ _ (omega arith))
 
-write-coarse-requires : tie.Need-write-coarse-requires
-write-coarse-requires c κs = search needs
+write-plain-requires : tie.Need-write-plain-requires
+write-plain-requires c κs = search needs
 
 returns : tie.Need-returns
 returns c =
     let i = c .before .before .before .before .before .before .before .before .before .args in
     let e = sym (c .before .before .before .before .scan .ensures .0) ∙ c .before .number .given .1 in
-    (import-refused _ _ _ e _ _ _ _, buffer-refused _ _ _ e (i .zone) _ _ _ _)
+    (import-refused (i .grid) _ _ _ e _ _ _ _, buffer-refused (i .grid) _ _ _ e (i .zone) _ _ _ _)
 
 same-length : tie.Need-same-length
 same-length c = search needs
@@ -55,14 +55,14 @@ returns-2 c =
     let g = c .before .before .before .before .before .before .before .n .given .1 in
     let e = sym (s .ensures .0) ∙ g in
     let l = c .before .before .before .before .before .list-size in
-    let out = s .last .1 .0 in
-    let row = ap (λ (k : ℕ). take k out) (l .ensures .0) ∙ row-of (s .result) _ (i .text .now) out g (s .ensures .1) in
-    let w = c .before .before .write-coarse .ensures in (
-      w .0 ∙ ap (λ (v : List ℤ). coarseWriteOf (i .charset) (i .name .now) (i .known) v (length (i .buffer .now))) row
-          ∙ import-kept (i .text .now) _ e (i .charset) (i .name .now) (i .known) (length (i .buffer .now)),
-      w .1 ∙ ap (λ (v : List ℤ). coarseWrittenTo (i .zone) (i .charset) (i .name .now) (i .known) v
+    let out = s .last .1 .1 .0 in
+    let row = ap (λ (k : ℕ). take k out) (l .ensures .0) ∙ row-of (i .grid) (s .result) _ (i .text .now) out g (s .ensures .1) in
+    let w = c .before .before .write-plain .ensures in (
+      w .0 ∙ ap (λ (v : List ℤ). plainWriteOf (i .grid) (i .charset) (i .name .now) (i .known) v (length (i .buffer .now))) row
+          ∙ import-kept (i .grid) (i .text .now) _ e (i .charset) (i .name .now) (i .known) (length (i .buffer .now)),
+      w .1 ∙ ap (λ (v : List ℤ). plainWrittenTo (i .grid) (i .zone) (i .charset) (i .name .now) (i .known) v
           (i .buffer .now)) row
-          ∙ buffer-kept (i .text .now) _ e (i .zone) (i .charset) (i .name .now) (i .known) (i .buffer .now),
+          ∙ buffer-kept (i .grid) (i .text .now) _ e (i .zone) (i .charset) (i .name .now) (i .known) (i .buffer .now),
     )
 
 pub import-spec : {M : Type 1} → statement M
@@ -75,8 +75,8 @@ import-spec =
     enum-known-n
     list-size-requires
     array-share-prefix-list
-    slice-aggregate-write-coarse
-    write-coarse-requires
+    slice-aggregate-write-plain
+    write-plain-requires
     returns
     same-length
     returns-2)

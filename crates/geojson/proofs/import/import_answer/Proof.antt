@@ -6,7 +6,7 @@ use native.Mathlib.Omega.{arith}
 use lib.IntN.{ℤ}
 use lib.ListN.{length, take}
 use lib.Seq.{length-take-le}
-use Rattle.geojson.specs.Import.{coarseWriteOf, coarseWrittenTo}
+use Rattle.geojson.specs.Import.{plainWriteOf, plainWrittenTo}
 use Rattle.geojson.proofs.Imports.{row-of, import-refused, buffer-refused, import-kept, buffer-kept}
 use borrow.Author.Needs.{needs}
 use Rattle.geojson.proofs.import.import_answer.Statement.{statement}
@@ -30,18 +30,19 @@ list-size-requires c κs = search needs
 array-share-prefix-list : tie.Need-array-share-prefix-list
 array-share-prefix-list c = search needs
 
-slice-aggregate-answer-coarse : tie.Need-slice-aggregate-answer-coarse
-slice-aggregate-answer-coarse c =
+slice-aggregate-answer-plain : tie.Need-slice-aggregate-answer-plain
+slice-aggregate-answer-plain c =
     let z = c .before .list-size .ensures .1 in
     sym (length-take-le _ _ (omega arith))
 
-answer-coarse-requires : tie.Need-answer-coarse-requires
-answer-coarse-requires c κs = search needs
+answer-plain-requires : tie.Need-answer-plain-requires
+answer-plain-requires c κs = search needs
 
 returns : tie.Need-returns
 returns c =
+    let i = c .before .before .before .before .before .before .before .before .args in
     let e = sym (c .before .before .before .before .scan .ensures .0) ∙ c .before .number .given .1 in
-    import-refused _ _ _ e _ _ _ _
+    import-refused (i .grid) _ _ _ e _ _ _ _
 
 returns-2 : tie.Need-returns-2
 returns-2 c =
@@ -50,11 +51,11 @@ returns-2 c =
     let g = c .before .before .before .before .n .given .1 in
     let e = sym (s .ensures .0) ∙ g in
     let l = c .before .before .list-size in
-    let out = s .last .1 .0 in
-    let row = ap (λ (k : ℕ). take k out) (l .ensures .0) ∙ row-of (s .result) _ (i .text .now) out g (s .ensures .1) in
-    c .answer-coarse .ensures ∙ ap (λ (v : List ℤ). coarseWriteOf (i .charset) (i .name .now) (i .known) v
+    let out = s .last .1 .1 .0 in
+    let row = ap (λ (k : ℕ). take k out) (l .ensures .0) ∙ row-of (i .grid) (s .result) _ (i .text .now) out g (s .ensures .1) in
+    c .answer-plain .ensures ∙ ap (λ (v : List ℤ). plainWriteOf (i .grid) (i .charset) (i .name .now) (i .known) v
     (i .room)) row
-    ∙ import-kept (i .text .now) _ e (i .charset) (i .name .now) (i .known) (i .room)
+    ∙ import-kept (i .grid) (i .text .now) _ e (i .charset) (i .name .now) (i .known) (i .room)
 
 pub import-answer-spec : {M : Type 1} → statement M
 import-answer-spec =
@@ -66,7 +67,7 @@ import-answer-spec =
     enum-known-n
     list-size-requires
     array-share-prefix-list
-    slice-aggregate-answer-coarse
-    answer-coarse-requires
+    slice-aggregate-answer-plain
+    answer-plain-requires
     returns
     returns-2)

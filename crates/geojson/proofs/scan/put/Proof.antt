@@ -7,13 +7,13 @@ use native.Mathlib.Omega.{arith}
 use Prim.Native.Nat.{suc, _+_, _*_}
 use lib.ListN.{length-set}
 use Rattle.angles.proofs.Numbers.{numbers-of}
-use Rattle.geojson.specs.Scan.{numbersOf, putOf}
+use Rattle.geojson.specs.Scan.{listOn, putOf}
 use borrow.Author.Needs.{needs}
 use Rattle.geojson.proofs.scan.put.Statement.{statement}
 use Rattle.geojson.proofs.scan.put.Tie as tie
 
-grid-numbers-requires : tie.Need-grid-numbers-requires
-grid-numbers-requires c κs = search needs
+numbers-on-requires : tie.Need-numbers-on-requires
+numbers-on-requires c κs = search needs
 
 mul-at : tie.Need-mul-at
 mul-at c = search needs
@@ -48,11 +48,11 @@ same-length : tie.Need-same-length
 same-length c = search needs
 
 returns : tie.Need-returns
-unfolding putOf numbersOf
+unfolding putOf listOn
 returns c =
     let s = c .before .before .before .before .before in
     let k = s .args .k in
-    let v = c .before .before .before .grid-numbers .result in
+    let v = c .before .before .before .numbers-on .result in
     let w = numbers-of v (c .struct-told3 .given) in
     let one : k * 3 + 1 ≡ suc (k * 3) = omega arith in
     let two : k * 3 + 2 ≡ suc (suc (k * 3)) = omega arith in
@@ -64,7 +64,7 @@ returns c =
       two,
       lt-ltb _ _
           (c .before .before .before .before .if1 .taken),
-      c .before .before .before .grid-numbers .ensures,
+      c .before .before .before .numbers-on .ensures,
     )
 
 returns-2 : tie.Need-returns-2
@@ -76,7 +76,7 @@ pub put-spec : {M : Type 1} → statement M
 put-spec =
     tie.close
     (tie.spec
-    grid-numbers-requires
+    numbers-on-requires
     mul-at
     mul-x
     slice-set-from-x

@@ -19,16 +19,16 @@ use Rattle.geojson.proofs.scan.scan_with.Statement.{statement}
 use Rattle.geojson.proofs.scan.scan_with.Tie as tie
 
 abbrev Inv-loop : tie.InvT-loop
-Inv-loop classes table text out₀ s₀ r₀ i₀ out s r i =
+Inv-loop classes table grid text out₀ s₀ r₀ i₀ out s r i =
     (i ≤ length text)
     × (s .at < 76)
     × (s .ring < 29)
     × (read text s i (length text - i) ≡ read text start 0 (length text))
     × (r ≡ readerAt text i)
-    × Filled out (walked held text i .done)
+    × Filled grid out (walked held text i .done)
 
 abbrev μ-loop : tie.MeasureT-loop
-μ-loop classes table text out₀ s₀ r₀ i₀ out s r i = length text - i
+μ-loop classes table grid text out₀ s₀ r₀ i₀ out s r i = length text - i
 
 start-requires : tie.Need-start-requires Inv-loop μ-loop
 start-requires c κs = search needs
@@ -42,7 +42,7 @@ loop-holds c =
       omega arith,
       rw e,
       c .start .ensures ∙ start-reader l,
-      start-filled l _
+      start-filled (c .before .before .args .grid) l _
           (c .before .before .pre .0),
     )
 
@@ -131,7 +131,9 @@ loop-less c =
 loop-again : tie.Need-loop-again Inv-loop μ-loop
 loop-again c =
     let a = c .before .before .before .before in
-    let l = a .before .before .before .before .before .before .before .before .before .before .args .text .now in
+    let s = a .before .before .before .before .before .before .before .before .before .before .args in
+    let g = s .grid in
+    let l = s .text .now in
     let v = a .before .before .before .before .before .before .before .loop in
     let b = getD l (v .i) 0 in
     let j : v .i + 1 ≡ suc (v .i) = omega arith in
@@ -139,8 +141,8 @@ loop-again c =
     let t = q .at in
     let h = q .run .inside in
     let n = c .before .before .before .ahead .result in
-    let f : Filled (outOf (v .r) b (v .out)) (walked held l (suc (v .i)) .done) =
-    rw (v .inv .4) (step-filled l (v .i) (v .out) (v .inv .5)) in
+    let f : Filled g (outOf g (v .r) b (v .out)) (walked held l (suc (v .i)) .done) =
+    rw (v .inv .4) (step-filled g l (v .i) (v .out) (v .inv .5)) in
     let on = sym (read-on l (v .s) (v .i) (length l) (omega arith) (next-on a)) ∙ v .inv .3 in (
       omega arith,
       q .low,
@@ -150,7 +152,7 @@ loop-again c =
           ∙ run-reader l (suc (v .i)) (q .k) (a .before .step .result) (n .pending) (q .run)
           (next-reader a) (q .pending)
           ∙ ap (readerAt l) (sym t),
-      rw (t, a .before .step .ensures .1) (run-filled l (suc (v .i)) (q .k) _ (q .run) f),
+      rw (t, a .before .step .ensures .1) (run-filled g l (suc (v .i)) (q .k) _ (q .run) f),
     )
 
 finish-requires : tie.Need-finish-requires Inv-loop μ-loop
@@ -170,7 +172,7 @@ returns-2 c =
     let e = sym (rw (eq-eqb _ _ (c .before .if2 .taken)) at
     (sym (read-end l (v .s) (v .i) (length l) (c .before .before .loop-test .left)) ∙ v .inv .3)) in
     let whole = c .finish .ensures ∙ ap finishOf (v .inv .4 ∙ ap (readerAt l) is) ∙ scan-whole l e in
-    (whole, listed _ l (v .out) whole (rw is at (v .inv .5)))
+    (whole, listed _ _ l (v .out) whole (rw is at (v .inv .5)))
 
 finish-requires-2 : tie.Need-finish-requires-2 Inv-loop μ-loop
 finish-requires-2 c κs = search needs
@@ -189,7 +191,7 @@ returns-3 c =
     let e = sym (rw (ne-eqb _ _ (c .before .before .if2 .left), eq-eqb _ _ (c .before .if3 .taken)) at
     (sym (read-end l (v .s) (v .i) (length l) (c .before .before .before .loop-test .left)) ∙ v .inv .3)) in
     let whole = c .finish2 .ensures ∙ ap finishOf (v .inv .4 ∙ ap (readerAt l) is) ∙ scan-whole l e in
-    (whole, listed _ l (v .out) whole (rw is at (v .inv .5)))
+    (whole, listed _ _ l (v .out) whole (rw is at (v .inv .5)))
 
 same-length-4 : tie.Need-same-length-4 Inv-loop μ-loop
 same-length-4 c =

@@ -5,7 +5,7 @@ use lib.ListN.{length}
 use lib.Seq.{length-take-le}
 use Rattle.big_endian.specs.Bytes.{intsAt}
 use Rattle.polygon.specs.GridClaims.{on}
-use Rattle.basin.specs.Basin.{gridNumbered}
+use Rattle.sphere.specs.Point.{gridNumbered}
 use Rattle.sheet.specs.Write.{writeOf, writtenTo}
 use Rattle.spargolutta.specs.Writing.{pointGrid}
 use Rattle.spargolutta.proofs.Listed.{decoded-front, decoded-room, alike-listed}

@@ -1,7 +1,7 @@
--- `grid_numbered` meets its contract.
+-- `point::grid_numbered` meets its contract.
 use borrow.Author.Tests.{eq-eqb, ne-eqb}
-use Rattle.basin.proofs.profile.grid_numbered.Statement.{statement}
-use Rattle.basin.proofs.profile.grid_numbered.Tie as tie
+use Rattle.sphere.proofs.point.grid_numbered.Statement.{statement}
+use Rattle.sphere.proofs.point.grid_numbered.Tie as tie
 
 returns : tie.Need-returns
 returns c = rw (eq-eqb _ _ (c .if1 .taken))
