@@ -4,11 +4,12 @@ use std::process::Command;
 use std::{env, fs};
 
 /// The archive's objects; what goes by the grid is compiled for each.
-const OBJECTS: [(&str, &str, &[&str]); 8] = [
+const OBJECTS: [(&str, &str, &[&str]); 9] = [
     ("calls.o", "src/calls.c", &[]),
     ("coarse_outline.o", "src/outline.c", &[]),
     ("coarse_judge.o", "src/judge.c", &[]),
     ("geojson.o", "src/geojson.c", &[]),
+    ("positions.o", "src/positions.c", &[]),
     ("fine_outline.o", "src/outline.c", &["-DFINE"]),
     ("fine_judge.o", "src/judge.c", &["-DFINE"]),
     ("coarse_basin.o", "src/basin.c", &[]),

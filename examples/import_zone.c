@@ -4,7 +4,7 @@
  *     import_zone GEOJSON ZONE NAME LONGITUDE LATITUDE SHEET
  *
  * GEOJSON is a file with one RFC 7946 Polygon, as spargolutta.h says. ZONE is the zone's number and NAME its name, in
- * UTF-8. LONGITUDE and LATITUDE are those of the known point, a place inside, in degrees with up to seven decimals.
+ * UTF-8. LONGITUDE and LATITUDE are those of the known point, a place inside, in degrees, rounded to ten-millionths.
  * SHEET is the file to write.
  *
  * Ends with 0 if the sheet was written, 1 if something was refused (and why goes to standard error; no file is
@@ -55,33 +55,6 @@ static void write_sheet(const char *path, size_t length)
         exit_with(path);
 }
 
-/* Degrees with up to seven decimals, in ten-millionths: in whole numbers, so that nothing is rounded. */
-static bool read_angle(const char *word, int32_t *angle)
-{
-    bool negative = *word == '-';
-    long long value = 0;
-    int decimals = -1; /* none before the point */
-    word += negative;
-    if (*word < '0' || '9' < *word)
-        return false;
-    for (; *word != '\0'; word++) {
-        if (*word == '.' && decimals < 0) {
-            decimals = 0;
-            continue;
-        }
-        if (*word < '0' || '9' < *word || value > 999999999)
-            return false;
-        value = 10 * value + (*word - '0');
-        decimals += decimals >= 0;
-    }
-    for (decimals = decimals < 0 ? 0 : decimals; decimals < 7 && value <= INT32_MAX; decimals++)
-        value *= 10;
-    if (decimals != 7 || value > INT32_MAX)
-        return false;
-    *angle = (int32_t)(negative ? -value : value);
-    return true;
-}
-
 static bool read_zone(const char *word, uint32_t *zone)
 {
     char *end;
@@ -101,14 +74,19 @@ static int refuse(const char *what, struct spg_answer answer)
 int main(int argc, char **argv)
 {
     uint32_t zone;
-    int32_t lon, lat;
-    if (argc != 7 || !read_zone(argv[2], &zone) || !read_angle(argv[4], &lon) || !read_angle(argv[5], &lat)) {
+    uint8_t degrees[SPG_POSITION_SIZE], known[SPG_POINT_SIZE];
+    uint32_t number = SPG_NOT_A_TEXT;
+    if (argc == 7 && read_zone(argv[2], &zone))
+        number = spg_put_position_text(degrees, argv[4], strlen(argv[4]), argv[5], strlen(argv[5]));
+    if (number == SPG_NOT_A_TEXT) {
         fprintf(stderr, "usage: import_zone GEOJSON ZONE NAME LONGITUDE LATITUDE SHEET\n");
         return 2;
     }
-    if (spg_point_number(lon, lat) != SPG_DONE)
-        return refuse("known point", (struct spg_answer){spg_point_number(lon, lat), 0, 0});
-    int32_t x = spg_point_x(lon, lat), y = spg_point_y(lon, lat), z = spg_point_z(lon, lat);
+    if (number == SPG_DONE)
+        number = spg_points_number(degrees, sizeof degrees, SPG_COARSE, known, sizeof known);
+    if (number != SPG_DONE)
+        return refuse("known point", (struct spg_answer){number, 0, 0});
+    int32_t x = spg_coordinate_at(known, 0), y = spg_coordinate_at(known, 1), z = spg_coordinate_at(known, 2);
 
     size_t text_len = read_text(argv[1]);
     const uint8_t *name = (const uint8_t *)argv[3];

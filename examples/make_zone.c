@@ -7,8 +7,8 @@
  *
  * GRID is 0 for the coarse grid or 1 for the fine one. RING is a text with one 'longitude latitude' a line, in
  * degrees, the last line equal to the first; STOPS has 'longitude latitude name'. ZONE is the zone's number and NAME
- * its name, in UTF-8. On the coarse grid the numbers are those of spg_point_x and its likes; the library has none for
- * the fine grid, and there they are this program's own, by libm. So take a zone's stops by the program that made it.
+ * its name, in UTF-8. Degrees are rounded to ten-millionths (spg_put_position), and the numbers on the grid are the
+ * library's (spg_points_number), for vertices and stops alike.
  *
  * Ends with 0 if all was done, 1 if something was refused (and why goes to standard error; no sheet is written), 2 if a
  * file could not be read or written or the words are not as above.
@@ -20,11 +20,11 @@
 #include <spargolutta.h>
 #include <string.h>
 
-#define STEPS 64                  /* grid steps that a known point is moved, at most */
-#define EARTH 6371008.8           /* the mean radius, in metres */
-#define RADIAN 572957795.13082321 /* in ten-millionths of a degree */
+#define STEPS 64        /* grid steps that a known point is moved, at most */
+#define EARTH 6371008.8 /* the mean radius, in metres */
 
 static uint32_t grid;
+static uint8_t positions[SPG_POSITION_SIZE * DRAWN_MOST], placed[SPG_POINT_SIZE * DRAWN_MOST];
 static int32_t points[DRAWN_MOST][3]; /* the outline's vertices on the grid */
 static uint8_t vertices[SPG_POINT_SIZE * SPG_VERTICES_MOST], sheet[SPG_SHEET_MOST];
 
@@ -42,37 +42,33 @@ static struct vector of_point(const int32_t *p)
     return (struct vector){p[0], p[1], p[2]};
 }
 
-/* Reads degrees off the line, in ten-millionths. Anything past 200 is 200: out of range too, and it fits. */
-static bool read_degrees(char **line, int32_t *angle)
+/* Reads the position that the line begins with, to ten-millionths of a degree. What is none ends the program. */
+static char *read_position(char *line, size_t number, uint8_t *position)
 {
-    char *end;
-    double degrees = strtod(*line, &end);
-    bool read = end != *line;
-    *angle = (int32_t)lround(1e7 * fmax(-200, fmin(200, degrees)));
-    *line = end;
-    return read;
-}
-
-/* The numbers on the grid of the position that the line begins with. What is no position ends the program. */
-static char *read_position(char *line, size_t number, int32_t *position, int32_t *p)
-{
-    char *rest = line;
     line[strcspn(line, "\r\n")] = '\0';
+    char *middle, *rest;
+    double longitude = strtod(line, &middle), latitude = strtod(middle, &rest);
     const char *why = NULL;
-    if (!read_degrees(&rest, position) || !read_degrees(&rest, position + 1))
+    if (middle == line || rest == middle)
         why = "not 'longitude latitude'";
-    else if (spg_point_number(position[0], position[1]) != SPG_DONE)
+    else if (spg_put_position(position, longitude, latitude) != SPG_DONE)
         why = spg_meaning(SPG_POSITION_OUTSIDE); /* 565 degrees west would be a good point by sine and cosine */
     if (why != NULL) {
         fprintf(stderr, "refused: line %zu: '%s': %s\n", number, line, why);
         exit(1);
     }
-    double lon = position[0] / RADIAN, lat = position[1] / RADIAN;
-    bool coarse = grid == SPG_COARSE;
-    p[0] = coarse ? spg_point_x(position[0], position[1]) : (int32_t)lround(SPG_GRID_FINE * cos(lat) * cos(lon));
-    p[1] = coarse ? spg_point_y(position[0], position[1]) : (int32_t)lround(SPG_GRID_FINE * cos(lat) * sin(lon));
-    p[2] = coarse ? spg_point_z(position[0], position[1]) : (int32_t)lround(SPG_GRID_FINE * sin(lat));
     return rest;
+}
+
+/* The points of the positions read, on the grid. */
+static void place_points(size_t count)
+{
+    uint32_t number = spg_points_number(positions, SPG_POSITION_SIZE * count, grid, placed, sizeof placed);
+    if (number != SPG_DONE)
+        refuse("positions", number, 0);
+    for (size_t i = 0; i < count; i++)
+        for (size_t k = 0; k < 3; k++)
+            points[i][k] = spg_coordinate_at(placed, 3 * i + k);
 }
 
 /* Reads a ring, without its closing position. */
@@ -80,20 +76,17 @@ static void read_ring(const char *path)
 {
     FILE *file = open_or_exit(path, "r");
     char line[1024];
-    int32_t first[2] = {0, 0}, last[2] = {0, 0};
-    for (n = 0; n < DRAWN_MOST && fgets(line, sizeof line, file) != NULL; n++) {
-        read_position(line, n + 1, last, points[n]);
-        if (n == 0)
-            memcpy(first, last, sizeof first);
-    }
+    for (n = 0; n < DRAWN_MOST && fgets(line, sizeof line, file) != NULL; n++)
+        read_position(line, n + 1, positions + SPG_POSITION_SIZE * n);
     close_or_exit(file, path);
     if (n == DRAWN_MOST) {
         fprintf(stderr, "refused: %s: %d positions or more\n", path, DRAWN_MOST);
         exit(1);
     }
-    if (n < 4 || memcmp(first, last, sizeof first) != 0)
+    if (n < 4 || memcmp(positions, positions + SPG_POSITION_SIZE * (n - 1), SPG_POSITION_SIZE) != 0)
         refuse(path, SPG_RING_OPEN, 0);
     n--;
+    place_points(n);
 }
 
 static bool same_direction(const int32_t *p, const int32_t *q)
@@ -178,10 +171,10 @@ static void print_stops(const char *path)
 {
     FILE *file = open_or_exit(path, "r");
     char line[1024];
-    int32_t position[2], p[3];
     for (size_t number = 1; fgets(line, sizeof line, file) != NULL; number++) {
-        const char *name = read_position(line, number, position, p);
-        printf("%d %d %d%s\n", (int)p[0], (int)p[1], (int)p[2], name);
+        const char *name = read_position(line, number, positions);
+        place_points(1);
+        printf("%d %d %d%s\n", (int)points[0][0], (int)points[0][1], (int)points[0][2], name);
     }
     close_or_exit(file, path);
 }

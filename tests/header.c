@@ -3,6 +3,7 @@
  *
  *     header           prints the macros, and what each call says of document 01's octant
  *     header null      prints what each call says with NULL for a pointer and 0 for its length
+ *     header degrees   prints what two words a line of the standard input make, as texts and as doubles
  *     header meanings  prints number, kind of place and text of each number up to 70,000 that has a text of its own;
  *                      spg_meaning and spg_meaning_text have to agree on all of them
  */
@@ -48,6 +49,7 @@ static void print_macros(void)
     print("charsets", SPG_UTF8, SPG_ISO_8859_7, SPG_WINDOWS_1253);
     print("sheets", SPG_SHEETS_MOST, SPG_PLACE_NONE, SPG_PLACE_CALL);
     print("result", SPG_BOOK_RESULT_SIZE, 0, 0);
+    print("position", SPG_POSITION_SIZE, 0, 0);
     for (uint32_t number = 0; number < 40; number++)
         if (SPG_IS_REFUSAL(number) != (number != SPG_DONE && number != SPG_INSIDE && number != SPG_OUTSIDE
                                        && number != SPG_BOUNDARY))
@@ -165,6 +167,55 @@ static void print_imported(const uint8_t *from, size_t length, const uint8_t *ca
           spg_import_number(from, length, 7, SPG_UTF8, called, called_len, 1048576, 9000, 7000, to, room),
           (unsigned long)spg_import_place(from, length, 7, SPG_UTF8, called, called_len, 1048576, 9000, 7000, room), 0);
     print_answer("whole", spg_import(from, length, 7, SPG_UTF8, called, called_len, 1048576, 9000, 7000, to, room));
+    print("fine",
+          spg_import_fine_number(from, length, 7, SPG_UTF8, called, called_len, 67108864, 9000, 7000, to, room),
+          (unsigned long)spg_import_fine_place(from, length, 7, SPG_UTF8, called, called_len, 67108864, 9000, 7000,
+                                               room), 0);
+    print_answer("whole",
+                 spg_import_fine(from, length, 7, SPG_UTF8, called, called_len, 67108864, 9000, 7000, to, room));
+}
+
+static void print_points(const uint8_t *degrees, size_t length, uint32_t grid, uint8_t *points, size_t room)
+{
+    print("points", spg_points_number(degrees, length, grid, points, room),
+          (unsigned long)spg_points_place(degrees, length, grid, room),
+          (unsigned long)spg_points_count(degrees, length, grid, room));
+}
+
+/* The position 90 degrees east on the equator, on both grids. */
+static void print_positions(void)
+{
+    uint8_t degrees[SPG_POSITION_SIZE], points[SPG_POINT_SIZE];
+    print("position", spg_point_number(900000000, 0), spg_point_on_number(900000000, 0, SPG_FINE),
+          spg_point_on_number(900000000, 0, 2));
+    print_point("grid", spg_point_x(900000000, 0), spg_point_y(900000000, 0), spg_point_z(900000000, 0));
+    print_point("grid", spg_point_on_x(900000000, 0, SPG_FINE), spg_point_on_y(900000000, 0, SPG_FINE),
+                spg_point_on_z(900000000, 0, SPG_FINE));
+    print("put", spg_put_angles(degrees, 900000000, 0), spg_put_angles(degrees, 900000000, 900000001), 0);
+    print_bytes("degrees", degrees, sizeof degrees);
+    print_points(degrees, sizeof degrees, SPG_FINE, points, sizeof points);
+    print_bytes("points", points, sizeof points);
+}
+
+/* What both ways make of a line's two words; a word that is no double of C's is asked as a text alone. */
+static void print_degrees(void)
+{
+    char longitude[500], latitude[500];
+    while (scanf("%499s %499s", longitude, latitude) == 2) {
+        uint8_t bytes[SPG_POSITION_SIZE];
+        int32_t angle = 7;
+        memset(bytes, '#', sizeof bytes);
+        print("text", spg_put_position_text(bytes, longitude, strlen(longitude), latitude, strlen(latitude)), 0, 0);
+        print_bytes("degrees", bytes, sizeof bytes);
+        print("angle", spg_angle_from_text(&angle, longitude, strlen(longitude)), 0, 0);
+        print_point("angle", angle, 0, 0);
+        memset(bytes, '#', sizeof bytes);
+        print("double", spg_put_position(bytes, strtod(longitude, NULL), strtod(latitude, NULL)), 0, 0);
+        print_bytes("degrees", bytes, sizeof bytes);
+        angle = 7;
+        print("angle", spg_angle_from_double(&angle, strtod(longitude, NULL)), 0, 0);
+        print_point("angle", angle, 0, 0);
+    }
 }
 
 static void print_written(const uint8_t *called, size_t called_len, const uint8_t *from, size_t length, uint8_t *to,
@@ -198,8 +249,7 @@ static void print_octant(void)
     print_bytes("fine", to, spg_sheet_place(to, 84));
     print_compared(sheet, sheet_len, to, 84);
     print_imported((const uint8_t *)text, sizeof text - 1, name, 1, to, sizeof to);
-    print("position", spg_point_number(900000000, 0), 0, 0);
-    print_point("grid", spg_point_x(900000000, 0), spg_point_y(900000000, 0), spg_point_z(900000000, 0));
+    print_positions();
 }
 
 static void print_null(void)
@@ -222,6 +272,9 @@ static void print_null(void)
     print_imported(NULL, 0, NULL, 0, NULL, 0);
     print_imported(good, sizeof text - 1, NULL, 0, NULL, 0);
     print_imported(good, sizeof text - 1, name, 1, NULL, 0);
+    print_points(NULL, 0, SPG_COARSE, NULL, 0);
+    print_points(NULL, 0, 2, NULL, 0);
+    print_points(good, 8, SPG_COARSE, NULL, 0);
     print_written(NULL, 0, NULL, 0, NULL, 0);
     print_written(name, 1, NULL, 0, NULL, 0);
     print_written(name, 1, vertices, sizeof vertices, NULL, 0);
@@ -259,6 +312,10 @@ int main(int argc, char **argv)
 {
     if (argc == 2 && strcmp(argv[1], "meanings") == 0) {
         print_meanings();
+        return 0;
+    }
+    if (argc == 2 && strcmp(argv[1], "degrees") == 0) {
+        print_degrees();
         return 0;
     }
     if (argc == 1) {

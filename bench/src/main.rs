@@ -1,10 +1,10 @@
 //! The library against document 02's P2 in checked Rust and in C: one call, the program, a feed on each grid; the index
-//! of long feeds against the boxes; the basin profile and an import against C; and a book against single calls on its
-//! sheets. The contestants take turns, and the
+//! of long feeds against the boxes; the basin profile, an import and points from degrees against C; and a book against single
+//! calls on its sheets. The contestants take turns, and the
 //! least time of many rounds counts. Prints tables, and draws the times of feeds as docs/feed-time.svg.
 //!
-//! Started with a folder and a contestant it makes one feed call, one of the basin profile, one import, or asks one
-//! book: what `instructions` counts.
+//! Started with a folder and a contestant it makes one feed call, one of the basin profile, one import, makes points,
+//! or asks one book: what `instructions` counts.
 
 mod basin;
 mod book;
@@ -16,6 +16,7 @@ mod index;
 mod instructions;
 mod plain_c;
 mod plot;
+mod positions;
 mod program;
 mod table;
 
@@ -44,6 +45,9 @@ fn main() {
         [folder, what, grid, contestant] if what == "basin" => {
             return basin::check_once(folder.as_ref(), grid, contestant)
         }
+        [folder, what, grid, contestant] if what == "points" => {
+            return positions::convert_once(folder.as_ref(), grid, contestant)
+        }
         [folder, _, contestant] => return geojson::import_once(folder.as_ref(), contestant),
         _ => {}
     }
@@ -67,6 +71,7 @@ fn main() {
     book::compare();
     comparisons::compare();
     geojson::compare();
+    positions::compare();
     println!();
     print_load("after");
 }

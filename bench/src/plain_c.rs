@@ -1,4 +1,4 @@
-//! The calls of calls.c and geojson.c, declared as in judge.h.
+//! The calls of calls.c, geojson.c and positions.c, declared as in judge.h.
 
 use spargolutta_tests::imports::Given;
 use spargolutta_tests::Point;
@@ -34,6 +34,7 @@ extern "C" {
         sheet: *mut u8,
         sheet_len: usize,
     ) -> CAnswer;
+    fn c_points(degrees: *const u8, count: usize, limit: f64, points: *mut u8);
 }
 
 pub fn judge(sheet: &[u8], [x, y, z]: Point) -> Answer {
@@ -54,4 +55,10 @@ pub fn import(text: &[u8], given: &Given, sheet: &mut [u8]) -> Answer {
     let CAnswer { number, place, count } =
         unsafe { c_import(at, length, zone, charset, name.as_ptr(), name.len(), x, y, z, out, room) };
     (number, place, count)
+}
+
+/// The points of these positions by libm, with room for all of them.
+pub fn points(degrees: &[u8], limit: f64, points: &mut [u8]) {
+    assert!(points.len() >= degrees.len() / 8 * 12);
+    unsafe { c_points(degrees.as_ptr(), degrees.len() / 8, limit, points.as_mut_ptr()) }
 }

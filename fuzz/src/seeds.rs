@@ -3,7 +3,7 @@
 use crate::input::Input;
 use spargolutta_tests::calls::{Case, CALLS, WORDS};
 use spargolutta_tests::guard::Edge;
-use spargolutta_tests::imports::{circle, given, text};
+use spargolutta_tests::imports::{circle, given, position_bytes, text};
 use spargolutta_tests::islands::{islands_on, queries, EXTENTS};
 use spargolutta_tests::outlines::{sheet_and_queries, Numbers, Source};
 use spargolutta_tests::random::Random;
@@ -48,7 +48,9 @@ impl Seeds {
 
     fn add_import(&mut self, text: &str, name: &[u8], room: usize) {
         let [x, y, z] = given().known;
-        self.add("import", text.as_bytes(), name, room, &[7, 1, x, y, z]);
+        for grid in [0, 1] {
+            self.add("import", text.as_bytes(), name, room, &[7, 1, x, y, z, 0, 0, 0, grid]);
+        }
     }
 }
 
@@ -96,7 +98,12 @@ fn add_positions(seeds: &mut Seeds) {
     seeds.add_import(&format!(r#"{{"coordinates":[{ring}],"type":"Polygon"}}"#), b"A", 200);
     (0..40).for_each(|number| seeds.add("meaning", &[], &[], 60, &[number]));
     for position in [[0, 0], [1_800_000_000, -900_000_000], [236_206_135, 379_420_215]] {
-        seeds.add("point", &[], &[], 0, &position);
+        let [longitude, latitude] = position;
+        let many = [position, position, [longitude, 900_000_001]].map(position_bytes).concat();
+        for grid in 0..3 {
+            seeds.add("point", &[], &[], 0, &[longitude, latitude, grid]);
+            seeds.add("points", &many, &[], 36, &[grid]);
+        }
     }
 }
 

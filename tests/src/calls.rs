@@ -6,6 +6,7 @@ mod told;
 
 use crate::fractions::Angles;
 use crate::imports::{self, Given};
+use crate::sheet::{point_bytes, Grid, GRIDS};
 use crate::{library, reference, Answer, Point, Written};
 pub use rooms::Rooms;
 use std::sync::OnceLock;
@@ -43,8 +44,9 @@ impl Lent<'_> {
     }
 
     fn given(&self) -> Given<'_> {
-        let [zone, charset, ..] = self.words;
-        Given { zone, charset, name: self.second, known: self.point(2) }
+        let [zone, charset, .., fine] = self.words;
+        let grid = if fine == 1 { Grid::Fine } else { Grid::Coarse };
+        Given { grid, zone, charset, name: self.second, known: self.point(2) }
     }
 
     /// The first bytes are the vertices, the second ones the name.
@@ -86,6 +88,7 @@ pub const CALLS: [Call; 14] = [
     reading!("compare", |lent| compare(lent.first, lent.second)),
     Call { name: "import", library: import, reference: import_by_reference },
     Call { name: "point", library: point, reference: point_by_reference },
+    Call { name: "points", library: points, reference: points_by_reference },
     Call { name: "write", library: write, reference: write_by_reference },
     reading!("sheet", |lent| sheets::parts(lent.first)),
     Call { name: "vertices", library: vertices, reference: vertices_by_reference },
@@ -130,7 +133,7 @@ fn import(lent: &Lent, sheet: &mut [u8]) -> Told {
 }
 
 fn import_by_reference(lent: &Lent, sheet: &mut [u8]) -> Told {
-    put(reference::import(lent.first, &lent.given(), sheet.len(), imports::point), sheet)
+    put(reference::import(lent.first, &lent.given(), sheet.len(), imports::point_on), sheet)
 }
 
 fn write(lent: &Lent, sheet: &mut [u8]) -> Told {
@@ -160,19 +163,50 @@ fn meaning_by_reference(lent: &Lent, buffer: &mut [u8]) -> Told {
     (kind, text.len()).told()
 }
 
+/// Without a grid and with one.
 fn point(lent: &Lent, _: &mut [u8]) -> Told {
-    let [longitude, latitude, _] = lent.point(0);
-    (imports::point_number(longitude, latitude), Some(imports::point(longitude, latitude))).told()
+    let [longitude, latitude, grid] = lent.point(0);
+    let coarse = (imports::point_number(longitude, latitude), Some(imports::point(longitude, latitude)));
+    let number = imports::point_on_number(longitude, latitude, grid as u32);
+    (coarse, (number, Some(imports::point_on(longitude, latitude, grid as u32)))).told()
 }
 
 /// The bound leaves the grid numbers open: the library's own if they are within it.
-fn point_by_reference(lent: &Lent, _: &mut [u8]) -> Told {
+fn near(longitude: i32, latitude: i32, grid: u32) -> (u32, Option<Point>) {
     static ANGLES: OnceLock<Angles> = OnceLock::new();
-    let [longitude, latitude, _] = lent.point(0);
+    let Some(&named) = GRIDS.iter().find(|named| named.number() == grid) else {
+        return (28, Some([0; 3]));
+    };
     if longitude.unsigned_abs() > 1_800_000_000 || latitude.unsigned_abs() > 900_000_000 {
-        return (31, Some([0; 3])).told();
+        return (31, Some([0; 3]));
     }
-    let numbers = imports::point(longitude, latitude);
-    let near = ANGLES.get_or_init(Angles::new).within_bound([longitude, latitude], numbers);
-    (0, near.then_some(numbers)).told()
+    let numbers = imports::point_on(longitude, latitude, grid);
+    let near = ANGLES.get_or_init(Angles::new).within_bound(named, [longitude, latitude], numbers);
+    (0, near.then_some(numbers))
+}
+
+fn point_by_reference(lent: &Lent, _: &mut [u8]) -> Told {
+    let [longitude, latitude, grid] = lent.point(0);
+    (near(longitude, latitude, 0), near(longitude, latitude, grid as u32)).told()
+}
+
+fn points(lent: &Lent, buffer: &mut [u8]) -> Told {
+    imports::points(lent.first, lent.words[0], buffer).told()
+}
+
+fn points_by_reference(lent: &Lent, buffer: &mut [u8]) -> Told {
+    let (degrees, grid, needed) = (lent.first, lent.words[0], lent.first.len() / 8 * 12);
+    let refusals = [(26, 0, degrees.len() % 8 != 0), (27, needed, buffer.len() < needed), (28, 0, grid > 1)];
+    if let Some(&(number, place, _)) = refusals.iter().find(|(.., holds)| *holds) {
+        return Answer { number, place, count: 0 }.told();
+    }
+    let mut count = 0;
+    for (position, point) in degrees.chunks(8).zip(buffer.chunks_mut(12)) {
+        let [longitude, latitude] =
+            [0, 4].map(|k| i32::from_be_bytes(position[k..k + 4].try_into().expect("four bytes")));
+        let (number, numbers) = near(longitude, latitude, grid);
+        count += u32::from(number == 31);
+        point.copy_from_slice(&point_bytes(numbers.expect("numbers within the bound")));
+    }
+    Answer { number: 0, place: 0, count }.told()
 }

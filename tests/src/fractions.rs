@@ -1,5 +1,6 @@
 //! Whole numbers of any size, and the first ten terms of the sine and the cosine as exact fractions (document 02, P7).
 
+use crate::sheet::Grid;
 use crate::Point;
 use std::cmp::Ordering;
 use std::ops::Mul;
@@ -148,9 +149,10 @@ impl Angles {
         (&x * &self.sine.at(&square), self.cosine.at(&square))
     }
 
-    /// Document 02's bound, for a position in range: each grid number within one of 2^20 times the product of the
-    /// fractions, on the grid, and of its sign.
-    pub fn within_bound(&self, [longitude, latitude]: [i32; 2], numbers: Point) -> bool {
+    /// Document 02's bound, for a position in range: each grid number within one of the grid's limit times the product
+    /// of the fractions, on the grid, and of its sign.
+    pub fn within_bound(&self, grid: Grid, [longitude, latitude]: [i32; 2], numbers: Point) -> bool {
+        let limit = grid.limit().unsigned_abs();
         let east = longitude.unsigned_abs();
         let turned = if east > 900_000_000 { 1_800_000_000 - east } else { east };
         let (sin_lon, cos_lon) = self.sin_cos(turned);
@@ -159,8 +161,9 @@ impl Angles {
         let negative = [east > 900_000_000, longitude < 0, latitude < 0];
         (0..3).all(|k| {
             let (size, denominator) = (numbers[k].unsigned_abs(), &self.denominators[k]);
-            let apart = (denominator * &Whole::from(size.into())).apart(&products[k] * &Whole::from(1 << 20));
-            apart.at_most(denominator) && size <= 1 << 20 && (size == 0 || (numbers[k] < 0) == negative[k])
+            let exact = &products[k] * &Whole::from(limit.into());
+            let apart = (denominator * &Whole::from(size.into())).apart(exact);
+            apart.at_most(denominator) && size <= limit && (size == 0 || (numbers[k] < 0) == negative[k])
         })
     }
 }

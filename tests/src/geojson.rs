@@ -1,21 +1,26 @@
-//! Document 02's P7: texts against a second reader, grid numbers against exact fractions, files as other tools write
-//! them.
+//! Document 02's P7: texts against a second reader, on both grids, and files as other tools write them.
 
 use crate::compare::Tally;
-use crate::fractions::Angles;
-use crate::imports::{circle, given, import_number, import_place, point, point_number, text, Given};
+use crate::imports::{circle, given, import_number, import_place, point_on, text, Given};
 use crate::random::Random;
+use crate::sheet::Grid;
 use crate::{reference, Answer};
-use std::thread;
 
 mod files;
 mod programs;
 
 const DEGREE: i32 = 10_000_000;
 
-/// Both calls against the second reader: the answer, and every byte of a buffer of `room`.
+/// Both calls of both grids against the second reader: the answer, and every byte of a buffer of `room`. The known point
+/// is scaled with the grid. The answer on the coarse grid.
 fn compare(text: &[u8], given: &Given, room: usize) -> Answer {
-    let (expected, sheet) = reference::import(text, given, room, point);
+    let fine = Given { grid: Grid::Fine, known: given.known.map(|k| k.saturating_mul(64)), ..*given };
+    compare_on(text, &fine, room);
+    compare_on(text, given, room)
+}
+
+fn compare_on(text: &[u8], given: &Given, room: usize) -> Answer {
+    let (expected, sheet) = reference::import(text, given, room, point_on);
     let mut buffer = vec![0xa5; room];
     let found = Answer {
         place: import_place(text, given, room),
@@ -157,70 +162,4 @@ fn geojson_random() {
         tally.count(compare(text(&ring).as_bytes(), &given, room).number);
     }
     tally.report("GeoJSON rings", 40_000, [0, 13, 15, 16, 22, 23, 25, 31, 32, 33]);
-}
-
-fn within_bound(angles: &Angles, position: [i32; 2]) {
-    let [longitude, latitude] = position;
-    let numbers = point(longitude, latitude);
-    assert_eq!(point_number(longitude, latitude), 0);
-    assert!(angles.within_bound(position, numbers), "{longitude}, {latitude}: {numbers:?}");
-}
-
-/// A million positions: every multiple of 90 degrees and its neighbours, and others of every kind.
-#[test]
-fn geojson_grid_numbers() {
-    const WORKERS: u64 = 2;
-    let angles = Angles::new();
-    let near = |limit: i32, quarters: i32| {
-        let around = move |k: i32| (-8..=8).map(move |step| k * 90 * DEGREE + step);
-        (-quarters..=quarters).flat_map(around).filter(move |k| k.abs() <= limit)
-    };
-    for longitude in near(180 * DEGREE, 2) {
-        near(90 * DEGREE, 1).for_each(|latitude| within_bound(&angles, [longitude, latitude]));
-    }
-    thread::scope(|scope| {
-        for seed in 0..WORKERS {
-            let angles = &angles;
-            scope.spawn(move || {
-                let mut random = Random::new(seed);
-                let mut number = move |limit: i32, quarters: i32| match random.below(4) {
-                    0 => (random.between(-quarters, quarters) * 90 * DEGREE + random.between(-2_000, 2_000))
-                        .clamp(-limit, limit),
-                    _ => random.between(-limit, limit),
-                };
-                for _ in 0..1_000_000 / WORKERS {
-                    within_bound(angles, [number(180 * DEGREE, 2), number(90 * DEGREE, 1)]);
-                }
-            });
-        }
-    });
-    println!("grid numbers: over 1,000,000 positions against exact fractions");
-}
-
-/// Multiples of 90 degrees are exact; past the range a position is refused and has no numbers.
-#[test]
-fn geojson_axes() {
-    let one = 1 << 20;
-    for (degrees, expected) in [
-        ([0, 0], [one, 0, 0]),
-        ([90, 0], [0, one, 0]),
-        ([180, 0], [-one, 0, 0]),
-        ([-180, 0], [-one, 0, 0]),
-        ([-90, 0], [0, -one, 0]),
-        ([0, 90], [0, 0, one]),
-        ([123, -90], [0, 0, -one]),
-    ] {
-        let [longitude, latitude] = degrees.map(|k| k * DEGREE);
-        assert_eq!(point(longitude, latitude), expected, "{degrees:?}");
-    }
-    for [longitude, latitude] in [
-        [1_800_000_001, 0],
-        [-1_800_000_001, 0],
-        [0, 900_000_001],
-        [0, -900_000_001],
-        [i32::MIN, 0],
-        [0, i32::MAX],
-    ] {
-        assert_eq!((point_number(longitude, latitude), point(longitude, latitude)), (31, [0; 3]));
-    }
 }

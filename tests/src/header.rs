@@ -6,6 +6,7 @@ use std::collections::BTreeSet;
 use std::fs;
 use std::process::Command;
 
+mod degrees;
 mod expected;
 
 const COMPILERS: [(&str, &[&str]); 3] =
@@ -43,6 +44,26 @@ fn header_in_use() {
         let texts: BTreeSet<&str> =
             told.lines().map(|line| line.rsplit_once('\t').expect("text").1).collect();
         assert_eq!(texts.len(), meanings.len(), "two numbers with one text");
+    }
+}
+
+/// Degrees as texts and as doubles, against exact fractions.
+#[test]
+fn header_degrees() {
+    let folder = Folder::new("degrees");
+    let (input, expected) = degrees::lines();
+    for (compiler, words) in COMPILERS {
+        let Some(program) = compiled(&folder, compiler, words) else {
+            println!("header: no {compiler} here");
+            continue;
+        };
+        let found = output_of(&mut command(program.get_program(), ["degrees"]), input.as_bytes());
+        let differs = |(k, (found, expected)): (usize, (&str, &str))| {
+            (found != expected)
+                .then(|| format!("{}: {found}, not {expected}", input.lines().nth(k / 8).unwrap_or("")))
+        };
+        let first = found.lines().zip(expected.lines()).enumerate().find_map(differs);
+        assert!(first.is_none() && found.len() == expected.len(), "{compiler}: {first:?}");
     }
 }
 

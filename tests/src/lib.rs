@@ -61,6 +61,8 @@ mod looked;
 #[cfg(test)]
 mod multiplications;
 #[cfg(test)]
+mod points;
+#[cfg(test)]
 mod portable;
 #[cfg(test)]
 mod program;

@@ -20,6 +20,14 @@ impl Grid {
         }
     }
 
+    /// The number that names it.
+    pub fn number(self) -> u32 {
+        match self {
+            Grid::Coarse => 0,
+            Grid::Fine => 1,
+        }
+    }
+
     /// The tag of the vertices.
     pub fn tag(self) -> u8 {
         match self {

@@ -5,7 +5,7 @@ mod shapes;
 
 use crate::client::{compile, flags};
 use crate::host::{command, output_of, repository, run_in_pieces, Folder};
-use crate::imports::point;
+use crate::imports::point_on;
 use crate::sheet::{Grid, Sheet, GRIDS};
 use crate::{library, Point};
 use shapes::{crescent, harbour, long_coast, star, Position};
@@ -114,17 +114,12 @@ fn zones_from_rings() {
 #[test]
 fn zones_repeated_vertices() {
     let (make_zone, ring) = (MakeZone::new("repeated"), harbour().ring);
-    let fine = |[lon, lat]: Position| {
-        let (lon, lat) = (lon.to_radians(), lat.to_radians());
-        [lat.cos() * lon.cos(), lat.cos() * lon.sin(), lat.sin()].map(|c| (c * 67_108_864.0).round() as i32)
-    };
-    let coarse = |[lon, lat]: Position| point((lon * 1e7).round() as i32, (lat * 1e7).round() as i32);
     for grid in GRIDS {
         let (sheet, known, _) = make_zone.make(grid, &closed(&ring));
-        let vertices: Vec<Point> = match grid {
-            Grid::Coarse => ring.iter().map(|&p| coarse(p)).collect(),
-            Grid::Fine => ring.iter().map(|&p| fine(p)).collect(),
+        let placed = |[lon, lat]: Position| {
+            point_on((lon * 1e7).round() as i32, (lat * 1e7).round() as i32, grid.number())
         };
+        let vertices: Vec<Point> = ring.iter().map(|&p| placed(p)).collect();
         let name = "Πειραιάς".as_bytes().to_vec();
         assert_eq!(sheet, Sheet { zone: 7, name, ..Sheet::new(known, &vertices).on(grid) }.bytes());
         assert_eq!(make_zone.stops(grid, &ring), vertices);

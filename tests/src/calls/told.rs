@@ -55,9 +55,9 @@ impl Numbered for (u32, usize) {
     }
 }
 
-/// A position's number, and its grid numbers unless they are past their bound.
-impl Numbered for (u32, Option<Point>) {
+/// A position's number, and its grid numbers unless they are past their bound: on the coarse grid, and on a named one.
+impl Numbered for ((u32, Option<Point>), (u32, Option<Point>)) {
     fn number(&self) -> u32 {
-        self.0
+        self.1 .0
     }
 }

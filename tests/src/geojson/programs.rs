@@ -3,7 +3,7 @@
 use super::BASES;
 use crate::client::{compile, flags, row};
 use crate::host::{command, output_of, run_in_pieces, Folder};
-use crate::imports::{circle, given, point, text};
+use crate::imports::{circle, given, point, point_on, text};
 use crate::reference;
 use crate::sheet::Sheet;
 use std::fs;
@@ -28,7 +28,7 @@ fn geojson_guard_pages() {
     for (line, (text, name, room)) in printed.lines().zip(&cases) {
         let mut given = given();
         given.name = name;
-        let (answer, sheet) = reference::import(text, &given, *room, point);
+        let (answer, sheet) = reference::import(text, &given, *room, point_on);
         let after: Vec<u8> = sheet.iter().copied().chain(vec![0xc3; *room]).take(*room).collect();
         let hex: String = after.iter().map(|byte| format!("{byte:02x}")).collect();
         assert_eq!(
@@ -82,6 +82,10 @@ fn geojson_import_zone() {
         "known point: latitude past 90 or longitude past 180 degrees (31), place 0",
     );
     refused(
+        ["zone.json", "7", "Quay", "214.8", "37.75", "none"],
+        "known point: latitude past 90 or longitude past 180 degrees (31), place 0",
+    );
+    refused(
         ["zone.json", "7", "", "23.7", "37.75", "none"],
         "zone.json: length not allowed in the sheet (22), place 0",
     );
@@ -91,9 +95,7 @@ fn geojson_import_zone() {
         "cut.json: not one GeoJSON Polygon of the kind that is read (30), place 40",
     );
     assert!(!folder.path("none").exists());
-    for (place, bad) in
-        [(1, "7x"), (1, "-7"), (1, "4294967296"), (3, "23.70000001"), (3, "1e1"), (4, ".5"), (4, "214.8")]
-    {
+    for (place, bad) in [(1, "7x"), (1, "-7"), (1, "4294967296"), (3, "1e1"), (4, ".5")] {
         let mut words = words;
         words[place] = bad;
         assert_eq!(import(words).0, Some(2), "{bad}");

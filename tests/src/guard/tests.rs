@@ -228,6 +228,7 @@ fn guarded_calls() {
         "compare",
         "import",
         "point",
+        "points",
         "write",
         "sheet",
         "vertices",

@@ -1,6 +1,6 @@
 //! What tests/header.c has to print, from documents 01 and 02 and the second implementation.
 
-use crate::imports::{given, point, Given};
+use crate::imports::{given, point_on, position_bytes, Given};
 use crate::sheet::{octant, octant_pair, point_bytes, points_bytes, Grid, OCTANT};
 use crate::{reference, Answer, Comparison, Point, Single, Which};
 
@@ -86,8 +86,12 @@ impl Lines {
 
     fn imported(&mut self, text: &[u8], name: &[u8], room: usize) {
         let given = Given { name, known: [1_048_576, 9_000, 7_000], ..given() };
-        let answer = reference::import(text, &given, room, point).0;
+        let answer = reference::import(text, &given, room, point_on).0;
         self.answer("import", answer);
+        self.answer("whole", answer);
+        let fine = Given { grid: Grid::Fine, known: [67_108_864, 9_000, 7_000], ..given };
+        let answer = reference::import(text, &fine, room, point_on).0;
+        self.answer("fine", answer);
         self.answer("whole", answer);
     }
 
@@ -118,6 +122,7 @@ pub fn octant_lines() -> String {
     lines.put("charsets", [1, 2, 3]);
     lines.put("sheets", [64, 0, 6]);
     lines.put("result", [24, 0, 0]);
+    lines.put("position", [8, 0, 0]);
     lines.helpers();
     lines.written_octant();
     let sheet = octant().bytes();
@@ -143,8 +148,13 @@ pub fn octant_lines() -> String {
     lines.compared(&sheet, &fine);
     lines.imported(TEXT, b"A", 200);
     // 90 degrees east on the equator.
-    lines.put("position", [0, 0, 0]);
+    lines.put("position", [0, 0, 28]);
     lines.put("grid", [0, 1 << 20, 0]);
+    lines.put("grid", [0, 1 << 26, 0]);
+    lines.put("put", [0, 31, 0]);
+    lines.bytes("degrees", &position_bytes([900_000_000, 0]));
+    lines.put("points", [0, 0, 0]);
+    lines.bytes("points", &point_bytes([0, 1 << 26, 0]));
     lines.0
 }
 
@@ -171,6 +181,9 @@ pub fn null_lines() -> String {
     lines.imported(&[], &[], 0);
     lines.imported(TEXT, &[], 0);
     lines.imported(TEXT, b"A", 0);
+    lines.put("points", [0, 0, 0]);
+    lines.put("points", [28, 0, 0]);
+    lines.put("points", [27, 12, 0]);
     // A writer's order: 22 for the name, 10 for the vertices, 25 for the buffer.
     lines.put("write", [22, 0, 0]);
     lines.put("write", [10, 0, 0]);

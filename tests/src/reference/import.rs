@@ -3,7 +3,7 @@
 
 use super::{answer, outline};
 use crate::imports::Given;
-use crate::sheet::{Grid, Sheet};
+use crate::sheet::Sheet;
 use crate::{Answer, Point};
 
 /// Where the longest beginning ends.
@@ -156,7 +156,12 @@ fn ring_refusal(ring: &[Position]) -> Option<Answer> {
 }
 
 /// The answer, and the sheet if there is one; `room` is the buffer's length, `point` gives a position's grid numbers.
-pub fn import(text: &[u8], given: &Given, room: usize, point: fn(i32, i32) -> Point) -> (Answer, Vec<u8>) {
+pub fn import(
+    text: &[u8],
+    given: &Given,
+    room: usize,
+    point: fn(i32, i32, u32) -> Point,
+) -> (Answer, Vec<u8>) {
     let refused = |refusal| (refusal, vec![]);
     let ring = match (Reader { text, at: 0 }).object() {
         Ok(ring) => ring,
@@ -174,12 +179,13 @@ pub fn import(text: &[u8], given: &Given, room: usize, point: fn(i32, i32) -> Po
     if ring.len() > 4_097 {
         return refused(answer(10, 0, 0));
     }
-    let vertices = ring[1..].iter().map(|p| point(p[0] as i32, p[1] as i32)).collect::<Vec<_>>();
+    let vertices =
+        ring[1..].iter().map(|p| point(p[0] as i32, p[1] as i32, given.grid.number())).collect::<Vec<_>>();
     // The last position is the first: it is dropped.
     let vertices = [&vertices[vertices.len() - 1..], &vertices[..vertices.len() - 1]].concat();
-    let &Given { zone, charset, name, known } = given;
+    let &Given { grid, zone, charset, name, known } = given;
     let (charset, name) = (charset as u8, name.to_vec());
-    let sheet = Sheet { grid: Grid::Coarse, zone, charset, name, known, vertices, second: None }.bytes();
+    let sheet = Sheet { grid, zone, charset, name, known, vertices, second: None }.bytes();
     match outline(&sheet) {
         Err(refusal) => refused(refusal),
         Ok(_) if room < sheet.len() => refused(answer(25, sheet.len(), 0)),

@@ -2,7 +2,7 @@
 
 use super::{compare, ends, full, lengths, sheets, words};
 use crate::calls::Case;
-use crate::imports::{circle, given, text};
+use crate::imports::{circle, given, position_bytes, text};
 use crate::random::Random;
 use crate::sheet::{points_bytes, OCTANT};
 use crate::Point;
@@ -58,7 +58,10 @@ fn guarded_import() {
     let mut cases = vec![];
     let mut add = |text: &[u8], name: usize, room: usize| {
         let (first, second, buffer) = (text.to_vec(), vec![b'n'; name], vec![0xc3; room]);
-        cases.push(Case { first, second, buffer, words: words(&[7, 1, x, y, z]) });
+        for grid in [0, 1] {
+            let words = words(&[7, 1, x, y, z, 0, 0, 0, grid]);
+            cases.push(Case { first: first.clone(), second: second.clone(), buffer: buffer.clone(), words });
+        }
     };
     let small = text(&circle(9)).into_bytes();
     lengths(&small).iter().for_each(|text| add(text, 1, 129));
@@ -69,5 +72,23 @@ fn guarded_import() {
         [needed - 1, needed, needed + 1].iter().for_each(|&room| add(&long, 1, room));
         add(&long[..long.len() - 1], 120, 60_000);
     }
-    compare("import", &cases, 1_400, [0, 10, 22, 25, 30]);
+    compare("import", &cases, 2_800, [0, 10, 22, 25, 30]);
+}
+
+/// Positions and buffers of every length, in range and out of it.
+#[test]
+fn guarded_points() {
+    let random = &mut Random::new(507);
+    let mut cases = vec![];
+    let number = |random: &mut Random, limit: i32| random.between(-limit, limit);
+    let positions = (0..49).map(|_| [number(random, 1_900_000_000), number(random, 950_000_000)]);
+    let degrees = positions.map(position_bytes).collect::<Vec<_>>().concat();
+    for first in lengths(&degrees) {
+        let needed = first.len() / 8 * 12;
+        for (grid, room) in [(0, needed), (1, needed + 5), (2, needed), (1, needed.saturating_sub(1))] {
+            let (first, buffer) = (first.clone(), vec![0xc3; room]);
+            cases.push(Case { first, buffer, words: words(&[grid]), ..Case::default() });
+        }
+    }
+    compare("points", &cases, 3_000, [0, 26, 27, 28]);
 }
