@@ -4,8 +4,9 @@
  * The polygon comes as a zone sheet (bytes) and the query as three whole numbers. spg_judge gives the whole answer to
  * one query, and a feed those to any number of queries. Other calls choose a second known point for a sheet, compare
  * two sheets, check whether an outline is simple, ask about a book (up to 64 sheets joined end to end), make a sheet
- * from a GeoJSON text or from its parts, make points of degrees, and hand out the parts of a sheet. A call hands out
- * one number: where an answer has several parts, several calls take the same arguments and each fetches one of them.
+ * from a GeoJSON text or from its parts, make points of degrees, hand out the parts of a sheet, and say how far a zone
+ * reaches. A call hands out one number: where an answer has several parts, several calls take the same arguments and
+ * each fetches one of them.
  *
  * All judging on the coarse grid is in whole numbers. On the fine grid floats decide only where their sign is proved to
  * be right, and whole numbers elsewhere: no answer depends on rounding.
@@ -163,6 +164,8 @@ enum spg_number {
                                 /* two sheets were compared                            see spg_compare_number         */
                                 /* a sheet was imported, written or read               place: the sheet's length      */
                                 /* positions became points                             count: those out of range      */
+                                /* a box was written                                   count: 1 if not the whole      */
+                                /* no plane was found (spg_far_number)                                                */
     SPG_INSIDE = 1,             /* inside                                              count: sides crossed           */
     SPG_OUTSIDE = 2,            /* outside                                             count: sides crossed           */
     SPG_BOUNDARY = 3,           /* on a border side                                    place: lowest such side        */
@@ -183,7 +186,7 @@ enum spg_number {
     SPG_SHEET_TRAILING = 24,    /* bytes after the last field                          place: first such byte         */
     SPG_SHEET_SHORT = 25,       /* the buffer for a sheet is too short                 place: bytes needed            */
     SPG_QUERIES_CUT = 26,       /* queries are not whole twelves, or positions eights                                 */
-    SPG_RESULTS_SHORT = 27,     /* the buffer for results or points is too short       place: bytes needed            */
+    SPG_RESULTS_SHORT = 27,     /* the buffer for results, points or a box is short    place: bytes needed            */
     SPG_BAD_GRID = 28,          /* the number of a grid is neither 0 nor 1                                            */
     SPG_NOT_A_TEXT = 30,        /* not a text that can be imported                     place: see spg_import_number   */
     SPG_POSITION_OUTSIDE = 31,  /* latitude past 90 or longitude past 180 degrees      place: lowest such position    */
@@ -860,6 +863,81 @@ SPG_PURE size_t spg_sheet_vertices(const uint8_t *sheet, size_t sheet_len);
 SPG_USED uint32_t spg_vertices_number(const uint8_t *sheet, size_t sheet_len, uint8_t *SPG_RESTRICT vertices,
                                       size_t vertices_len);
 SPG_PURE size_t spg_vertices_place(const uint8_t *sheet, size_t sheet_len, size_t vertices_len);
+
+/*
+ * spg_far_number: the verdict on the far side of a zone, which tells of a known point on the wrong side of the coast.
+ *
+ * sheet, sheet_len  As above.
+ * Result            1 or 2 where the call found a plane through the centre that has all vertices strictly on one side:
+ *                   the verdict on the point opposite vertex 0, and so on every query that lies strictly behind any
+ *                   such plane and gets neither 17 nor 18. 0 where it found none: for an outline around the centre, and
+ *                   perhaps for one of nearly a hemisphere. Or the sheet's refusal (20 to 24, 11 to 16, 19), with the
+ *                   place that spg_sheet_place gives.
+ *
+ * 1 for a harbour means that it holds the other side of the Earth: its known point is outside of the outline as drawn.
+ * Nothing is written.
+ */
+SPG_PURE uint32_t spg_far_number(const uint8_t *sheet, size_t sheet_len);
+
+/*
+ * spg_box_number, spg_box_place, spg_box_count: a box that holds all of a zone, to index zones by.
+ *
+ * A box is SPG_BOX_SIZE bytes: low x, y, z and high x, y, z, signed 32-bit, big-endian, from -2^30 to 2^30. spg_box_at
+ * reads it. A point divided by its greatest number in size lies on the surface of a cube, and the box bounds it there in
+ * units of 2^-30: every query that is judged 1 or 3 has low * m <= 2^30 * number <= high * m for each of its three
+ * numbers, m the greatest of them in size. (spg_box_holds asks that; in 64 bits nothing overflows.) 180 degrees and the
+ * poles are places like any other.
+ *
+ * sheet, sheet_len  As above.
+ * box, box_len      The buffer, SPG_BOX_SIZE bytes or more. The calls for place and count take its length alone.
+ * Result            0, place 0; and as count 1 if all vertices are strictly on one side of the plane x = 0, y = 0 or
+ *                   z = 0 and the far side is outside, so that the zone has a box of its own; otherwise count 0, and
+ *                   the box is the whole, from -2^30 to 2^30. Or 27 if the buffer is too short, and as place the bytes
+ *                   needed; or the sheet's refusal, each with count 0. With equal arguments the three belong together.
+ *
+ * spg_box_number writes, and it alone: with 0 the box into the first bytes of the buffer, and nothing else. How tight a
+ * box is may change between versions and with the rounding mode; that it holds the zone does not.
+ */
+#define SPG_BOX_SIZE 24
+SPG_USED uint32_t spg_box_number(const uint8_t *sheet, size_t sheet_len, uint8_t *SPG_RESTRICT box, size_t box_len);
+SPG_PURE size_t spg_box_place(const uint8_t *sheet, size_t sheet_len, size_t box_len);
+SPG_PURE uint32_t spg_box_count(const uint8_t *sheet, size_t sheet_len, size_t box_len);
+
+struct spg_box {
+    int32_t low[3], high[3];
+};
+
+/* A box that was written. */
+SPG_NONNULL SPG_PURE static inline struct spg_box spg_box_at(const uint8_t *from)
+{
+    struct spg_box box;
+    int k;
+    for (k = 0; k < 3; k++) {
+        box.low[k] = spg_coordinate_at(from, (size_t)k);
+        box.high[k] = spg_coordinate_at(from, (size_t)k + 3);
+    }
+    return box;
+}
+
+/* Does the box hold a point of either grid? 0 means that the zone neither has it inside nor on its boundary. */
+SPG_PURE static inline int spg_box_holds(struct spg_box box, int32_t x, int32_t y, int32_t z)
+{
+    int64_t numbers[3], most = 0;
+    int k;
+    numbers[0] = x;
+    numbers[1] = y;
+    numbers[2] = z;
+    for (k = 0; k < 3; k++) {
+        if (numbers[k] > most)
+            most = numbers[k];
+        if (-numbers[k] > most)
+            most = -numbers[k];
+    }
+    for (k = 0; k < 3; k++)
+        if (box.low[k] * most > numbers[k] * 1073741824 || numbers[k] * 1073741824 > box.high[k] * most)
+            return 0;
+    return 1;
+}
 
 /*
  * The text of spg_meaning for languages that cannot use an inline function: as many of its bytes as fit go to the front

@@ -96,6 +96,22 @@ static void print_vertices(const uint8_t *s, size_t n, uint8_t *to, size_t room)
     print("vertices", spg_vertices_number(s, n, to, room), (unsigned long)spg_vertices_place(s, n, room), 0);
 }
 
+static void print_extent(const uint8_t *s, size_t n, uint8_t *to, size_t room)
+{
+    print("far", spg_far_number(s, n), 0, 0);
+    print("box", spg_box_number(s, n, to, room), (unsigned long)spg_box_place(s, n, room), spg_box_count(s, n, room));
+}
+
+static void print_box(const uint8_t *from)
+{
+    struct spg_box box = spg_box_at(from), half = box;
+    half.high[0] = 0;
+    print_bytes("box", from, SPG_BOX_SIZE);
+    print_point("low", box.low[0], box.low[1], box.low[2]);
+    print_point("high", box.high[0], box.high[1], box.high[2]);
+    print_point("held", spg_box_holds(box, 3, 2, 1), spg_box_holds(half, 3, 2, 1), spg_box_holds(half, -3, 2, 1));
+}
+
 static void print_judged(const uint8_t *s, size_t n, int32_t x, int32_t y, int32_t z)
 {
     print("judge", spg_judge_number(s, n, x, y, z), (unsigned long)spg_judge_place(s, n, x, y, z),
@@ -235,6 +251,8 @@ static void print_octant(void)
     print_parts(sheet, sheet_len);
     print_vertices(sheet, sheet_len, again, sizeof again);
     print_bytes("bytes", again, sizeof again);
+    print_extent(sheet, sheet_len, to, SPG_BOX_SIZE);
+    print_box(to);
     for (int k = 0; k < 4; k++) {
         const int32_t *q = queries[k];
         spg_put_point(feed + SPG_POINT_SIZE * k, q[0], q[1], q[2]);
@@ -259,6 +277,8 @@ static void print_null(void)
     print_parts(NULL, 0);
     print_vertices(NULL, 0, NULL, 0);
     print_vertices(sheet, sheet_len, NULL, 0);
+    print_extent(NULL, 0, NULL, 0);
+    print_extent(sheet, sheet_len, NULL, 0);
     print_feed(NULL, 0, NULL, 0, NULL, 0);
     print_feed(sheet, sheet_len, NULL, 0, NULL, 0);
     print_chosen(NULL, 0, NULL, 0);

@@ -92,6 +92,16 @@ static void feed_book(struct judged *j)
     require(one.sets.inside == spg_book_result_at(sets, 0).inside, "two answers");
 }
 
+static void extent(struct judged *j)
+{
+    struct bytes s = j->sheet;
+    uint8_t box[SPG_BOX_SIZE];
+    j->place = spg_far_number(s.at, s.length) + spg_box_place(s.at, s.length, sizeof box);
+    j->number = spg_box_number(s.at, s.length, box, sizeof box);
+    j->count = spg_box_count(s.at, s.length, sizeof box);
+    require(j->number == SPG_DONE, "no box");
+}
+
 static void texts(struct judged *j)
 {
     uint8_t text[4];
@@ -129,6 +139,7 @@ int main(void)
         {.name = "basin, whole", .call = whole_basin},
         {.name = "basin", .call = basin},
         {.name = "write", .call = write_parts},
+        {.name = "extent", .call = extent},
         {.name = "texts", .call = texts},
     };
     struct judged from = {.sheet = {sheet, 0}, .queries = {queries, 0}, .results = {results, 0}};

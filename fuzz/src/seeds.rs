@@ -40,6 +40,8 @@ impl Seeds {
         self.add("book_next", &book, &[], 0, &[bytes.len() as i32]);
         self.add("sheet", &bytes, &[], 0, &[]);
         self.add("vertices", &bytes, &[], vertices.len(), &[]);
+        self.add("far", &bytes, &[], 0, &[]);
+        self.add("box", &bytes, &[], 24, &[]);
         let ([x, y, z], [u, v, w]) = (sheet.known, sheet.second.unwrap_or([0; 3]));
         self.add("write", &vertices, &sheet.name, bytes.len(), &[7, 1, x, y, z, u, v, w, grid]);
         self.add("compare", &bytes, &turned.bytes(), 0, &[]);

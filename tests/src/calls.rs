@@ -77,7 +77,7 @@ macro_rules! reading {
     };
 }
 
-pub const CALLS: [Call; 14] = [
+pub const CALLS: [Call; 17] = [
     reading!("judge", |lent| single(lent.first, lent.point(0))),
     Call { name: "feed", library: feed, reference: feed_by_reference },
     reading!("choose", |lent| choose(lent.first, lent.second)),
@@ -92,6 +92,8 @@ pub const CALLS: [Call; 14] = [
     Call { name: "write", library: write, reference: write_by_reference },
     reading!("sheet", |lent| sheets::parts(lent.first)),
     Call { name: "vertices", library: vertices, reference: vertices_by_reference },
+    Call { name: "far", library: far, reference: far_by_reference },
+    Call { name: "box", library: boxed, reference: boxed_by_reference },
     Call { name: "meaning", library: meaning, reference: meaning_by_reference },
 ];
 
@@ -150,6 +152,27 @@ fn vertices(lent: &Lent, buffer: &mut [u8]) -> Told {
 
 fn vertices_by_reference(lent: &Lent, buffer: &mut [u8]) -> Told {
     put(reference::sheets::vertices(lent.first, buffer.len()), buffer)
+}
+
+fn far(lent: &Lent, _: &mut [u8]) -> Told {
+    library::extents::far(lent.first).told()
+}
+
+/// Whether a plane is found is a hint: 0 will do for a good sheet.
+fn far_by_reference(lent: &Lent, _: &mut [u8]) -> Told {
+    let found = library::extents::far(lent.first) != 0;
+    reference::extents::far(lent.first, found).told()
+}
+
+fn boxed(lent: &Lent, buffer: &mut [u8]) -> Told {
+    library::extents::boxed(lent.first, buffer).told()
+}
+
+/// How tight a box is, is left open: the library's own if it holds the vertices and is not the whole.
+fn boxed_by_reference(lent: &Lent, buffer: &mut [u8]) -> Told {
+    let mut own = [0; 24];
+    library::extents::boxed(lent.first, &mut own);
+    put(reference::extents::boxed(lent.first, buffer.len(), own), buffer)
 }
 
 fn meaning(lent: &Lent, text: &mut [u8]) -> Told {

@@ -39,6 +39,8 @@ mod differences;
 #[cfg(test)]
 mod example;
 #[cfg(test)]
+mod extents;
+#[cfg(test)]
 mod faults;
 #[cfg(test)]
 mod feed;

@@ -2,6 +2,7 @@
 
 pub mod book;
 pub mod by_boxes;
+pub mod extents;
 pub mod sheets;
 
 use crate::{Answer, Comparison, Point, Single};

@@ -7,6 +7,7 @@
 mod basin;
 pub mod book;
 mod differences;
+pub mod extents;
 mod fields;
 mod geometry;
 mod import;

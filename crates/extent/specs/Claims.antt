@@ -1,7 +1,7 @@
--- The promised theorem of the far side, as a statement. Its proof is in proofs/Claims. Stated: FarAlike (a query that is
--- judged and lies strictly behind any plane that has all vertices strictly ahead gets the verdict of the far side, that to
--- the antipode of vertex 0, and it is inside or outside). So a number 1 or 2 of spg_far_number is the verdict on all of
--- them; that there are such planes it tells too (FarNumber).
+-- The promised theorem of the far side, as a statement. Its proof is in proofs/Claims. Stated: FarAlike (a query that
+-- is judged and lies strictly behind any plane that has all vertices strictly ahead gets the verdict of the far side,
+-- that to the antipode of vertex 0, and it is inside or outside). So a number 1 or 2 of spg_far_number is the verdict
+-- on all of them; that there are such planes it tells too (FarNumber).
 use mathlib.Core.Path.{_≡_}
 use mathlib.Core.List.{List}
 use Prim.Native.Nat.{ℕ, _≤_}

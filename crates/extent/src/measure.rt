@@ -1,15 +1,21 @@
-// How far a zone reaches. Here, in order: Extent, unmeasured, measure_polygon (an accepted polygon), measure_in, measure
-// (a sheet by its bytes), far (the verdict on its far side). Any bytes; nothing that users lend is written.
+// How far a zone reaches. Here, in order: Extent, unmeasured; is_outside, is_bounded, box_for, measure_polygon (an
+// accepted polygon); measure_in, measure (a sheet by its bytes), far (the verdict on its far side). Any bytes; nothing
+// that users lend is written.
 ghost use mathlib.Core.Path.{_≡_};
 ghost use Prim.Native.Nat.{_≤_};
 ghost use lib.ListN.{length};
-ghost use Rattle.sphere.specs.Point.{limitOf};
+ghost use Rattle.sphere.specs.Point.{fine, limitOf};
 ghost use Rattle.answer.specs.declared.Check.the-variants.{Passed, Failed};
+ghost use Rattle.polygon.specs.Accepted.{Gridded};
 ghost use Rattle.polygon.specs.Pair.{optionalCheck};
 ghost use Rattle.search.specs.Boxes.{Boxed};
 ghost use Rattle.sheet.specs.Open.{roomFor, BoxesFor, decodedOf};
 ghost use Rattle.zone.specs.Judge.{boxedOf};
-ghost use Rattle.extent.specs.Extent.{Measured, Told, FarNumber};
+ghost use Rattle.extent.specs.Extent.{isOutside, isBounded, BoxFor, Measured, Told, FarNumber};
+use crate::sides::Sides;
+use crate::sides::is_fronted;
+use crate::sides::sides_of;
+use crate::sides::whole;
 use answer::Answer;
 use answer::Check;
 use answer::number;
@@ -23,11 +29,14 @@ use sphere::point::Grid;
 use sphere::point::Point;
 
 // What the sheet's checks say; whether a plane was found that has all vertices strictly ahead; and the answer to the
-// antipode of vertex 0, which is behind every such plane. Beside a refusal the others mean nothing.
+// antipode of vertex 0, which is behind every such plane; whether the zone has a box of its own, and its box. Beside a
+// refusal the others mean nothing.
 pub struct Extent {
     pub check: Check,
     pub found: bool,
     pub far: Answer,
+    pub bounded: bool,
+    pub sides: Sides,
 }
 
 fn unmeasured(number: u32, place: usize) -> Extent
@@ -37,7 +46,43 @@ fn unmeasured(number: u32, place: usize) -> Extent
         check: Check::Failed(number, place),
         found: false,
         far: Answer::Done(0),
+        bounded: false,
+        sides: whole(),
     }
+}
+
+fn is_outside(answer: Answer) -> bool
+    ensures { λ r. ⌜ r ≡ isOutside answer ⌝ }
+{
+    match answer {
+        Answer::Done(_) => false,
+        Answer::Inside(_, _) => false,
+        Answer::Outside(_, _) => true,
+        Answer::Boundary(_) => false,
+        Answer::Refused(_, _) => false,
+    }
+}
+
+// The polygon is on one side of a coordinate plane, and the far side is outside.
+fn is_bounded(vertices: &[i32], far: Answer) -> bool
+    requires { ⌜ Gridded fine (now vertices) ⌝ }
+    ensures { λ r. ⌜ r ≡ isBounded (now (vertices .entry)) far ⌝ }
+{
+    if is_fronted(vertices) {
+        return is_outside(far);
+    }
+    false
+}
+
+// The polygon's box, or the whole.
+fn box_for(vertices: &[i32], bounded: bool) -> Sides
+    requires { ⌜ Gridded fine (now vertices) ⌝ }
+    ensures { λ r. ⌜ BoxFor (now (vertices .entry)) bounded r ⌝ }
+{
+    if bounded {
+        return sides_of(vertices);
+    }
+    whole()
 }
 
 fn measure_polygon(
@@ -55,10 +100,14 @@ fn measure_polygon(
     let back = away(vertices);
     let found = is_behind(vertices, planes, back);
     let far = judge_boxed(grid, vertices, boxes, known, second, back, Mode::Boxed).answer;
+    let bounded = is_bounded(vertices, far);
+    let sides = box_for(vertices, bounded);
     Extent {
         check: Check::Passed,
         found: found,
         far: far,
+        bounded: bounded,
+        sides: sides,
     }
 }
 

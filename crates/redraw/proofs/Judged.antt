@@ -1,7 +1,7 @@
--- One list with a pair of reference points, over a grid that holds its own: the parity from the point that judges is the
--- bit of the first point plus the bit of the query. Proved, in order: number-by (the answer's number, by that parity),
--- second-bit (an accepted second point has the bit of the first), arc-judged. Redrawn lists (Pair) and crate separation
--- stand on it.
+-- One list with a pair of reference points, over a grid that holds its own: the parity from the point that judges is
+-- the bit of the first point plus the bit of the query. Proved, in order: number-by (the answer's number, by that
+-- parity), second-bit (an accepted second point has the bit of the first), arc-judged. Redrawn lists (Pair) and crate
+-- separation stand on it.
 use mathlib.Core.Path.{_≡_, refl, sym, _∙_, ap}
 use mathlib.Core.Bool.{Bool, true, false}
 use mathlib.Core.List.{List}

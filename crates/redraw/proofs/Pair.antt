@@ -1,6 +1,6 @@
 -- Redrawn lists with pairs of reference points. The parity from the point that judges is the bit of the first plus the
--- bit of the query (Judged), and bits are counts of crossings, which no redrawing changes. Proved, in order:
--- pair-unmoved; after-passed, first-passed, query-on-grid, not-far, redrawn-verdicts (every refusal is 10 or more: where
+-- bit of the query (Judged), and bits are counts of crossings, which no redrawing changes. Proved, in order: pair-
+-- unmoved; after-passed, first-passed, query-on-grid, not-far, redrawn-verdicts (every refusal is 10 or more: where
 -- the number is at most 3, all checks passed).
 use mathlib.Core.Path.{_≡_, refl, sym, _∙_, ap, ap₂, subst}
 use mathlib.Core.Bool.{Bool, true, false, cond}

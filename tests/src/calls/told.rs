@@ -48,6 +48,13 @@ impl Numbered for Parts {
     }
 }
 
+/// A number alone.
+impl Numbered for u32 {
+    fn number(&self) -> u32 {
+        *self
+    }
+}
+
 /// What the place of a number is, and how long its text is.
 impl Numbered for (u32, usize) {
     fn number(&self) -> u32 {

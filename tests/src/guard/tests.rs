@@ -232,6 +232,8 @@ fn guarded_calls() {
         "write",
         "sheet",
         "vertices",
+        "far",
+        "box",
         "meaning",
     ];
     assert_eq!(CALLS.map(|call| call.name), tested);

@@ -133,6 +133,13 @@ pub fn octant_lines() -> String {
     lines.put("second", [0, 0, 0]);
     lines.put("vertices", [0, 0, 0]);
     lines.bytes("bytes", &points_bytes(&OCTANT));
+    // Opposite (1, 0, 0) is outside, and the octant touches all coordinate planes: its box is the whole.
+    lines.put("far", [2, 0, 0]);
+    lines.put("box", [0, 0, 0]);
+    lines.bytes("box", &[[[0xc0, 0, 0, 0]; 3], [[0x40, 0, 0, 0]; 3]].concat().concat());
+    lines.put("low", [-(1 << 30); 3]);
+    lines.put("high", [1 << 30; 3]);
+    lines.put("held", [1, 0, 1]);
     let queries = [[3, 2, 1], [1, 1, 0], [1, 1, -1], [-1, -1, -1]];
     for query in queries {
         lines.judged(&sheet, query);
@@ -168,6 +175,10 @@ pub fn null_lines() -> String {
     ["zone", "name", "known", "second"].iter().for_each(|part| lines.answer(part, NOTHING));
     lines.put("vertices", [20, 0, 0]);
     lines.put("vertices", [27, 36, 0]);
+    for far in [20, 2] {
+        lines.put("far", [far, 0, 0]);
+        lines.put("box", [27, 24, 0]);
+    }
     lines.feed(&[], &[]);
     lines.feed(&sheet, &[]);
     lines.answer("choose", reference::choose(&[], &[]));

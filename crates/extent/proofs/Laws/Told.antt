@@ -1,5 +1,5 @@
 -- What is told of a sheet. Proved, in order: gridded-of (the vertices of an accepted polygon are on the fine grid),
--- behind-plane, refused-told, far-refused, far-none, far-found.
+-- behind-plane, failed-passed, refused-told, far-refused, far-none, far-found.
 use mathlib.Core.Path.{_≡_, refl, sym, _∙_, ap}
 use mathlib.Core.Bool.{true, false, false≢true}
 use mathlib.Core.List.{List}
@@ -35,7 +35,7 @@ gridded-of g vs X Y x =
 pub behind-plane : {vs : List ℤ} {P : Point} → Behind vs P → Plane vs
 behind-plane b = record { normal = b .normal; ahead = b .separates .ahead }
 
-failed-passed : {n p : ℕ} {A : Type 0} → Failed n p ≡ Passed → A
+pub failed-passed : {n p : ℕ} {A : Type 0} → Failed n p ≡ Passed → A
 failed-passed e = let z : _≡_ {A = ℕ} 0 1 = cc in absurd (omega arith)
 
 pub refused-told : (b : List ℕ) (e : Extent) {n p : ℕ} → sheetCheck b ≡ Failed n p → e .check ≡ Failed n p → Told b e

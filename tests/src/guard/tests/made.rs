@@ -35,6 +35,8 @@ fn guarded_sheets() {
     }
     compare("write", &written, 2_000, [0, 10, 19, 22, 25, 28]);
     compare("vertices", &read, 5_000, [0, 16, 19, 20, 24, 27]);
+    compare("far", &read, 5_000, [0, 1, 2, 16, 19, 20, 24]);
+    compare("box", &read, 5_000, [0, 16, 19, 20, 24, 27]);
     compare("sheet", &read, 5_000, [0, 16, 19, 20, 24]);
 }
 

@@ -1,4 +1,5 @@
--- `measure_polygon` meets its contract: the antipode of vertex 0 is behind a plane just where the polygon is ahead of it.
+-- `measure_polygon` meets its contract: the antipode of vertex 0 is behind a plane just where the polygon is ahead of
+-- it.
 use mathlib.Core.Path.{_≡_, refl}
 use native.Mathlib.Omega.{arith}
 use borrow.Author.Needs.{needs}
@@ -23,13 +24,33 @@ is-behind-requires c κs =
 judge-boxed-requires : tie.Need-judge-boxed-requires
 judge-boxed-requires c κs = search needs
 
+is-bounded-requires : tie.Need-is-bounded-requires
+is-bounded-requires c κs =
+    let s = c .before .before .before .before in gridded-of (s .args .grid) _ _ _ (s .pre .0) .0
+
+box-for-requires : tie.Need-box-for-requires
+box-for-requires c κs =
+    let s = c .before .before .before .before .before in gridded-of (s .args .grid) _ _ _ (s .pre .0) .0
+
 returns : tie.Need-returns
-returns c = record {
-  checked = refl;
-  plane = λ e. behind-plane (c .before .is-behind .ensures e);
-  far = rw (c .before .before .away .ensures) at (c .judge-boxed .ensures .0);
-}
+returns c =
+    let j = c .before .before in
+    record {
+      checked = refl;
+      plane = λ e. behind-plane (j .before .is-behind .ensures e);
+      far = rw (j .before .before .away .ensures) at (j .judge-boxed .ensures .0);
+      bounded = c .before .is-bounded .ensures;
+      sides = c .box-for .ensures;
+    }
 
 pub measure-polygon-spec : {M : Type 1} → statement M
 measure-polygon-spec =
-    tie.close (tie.spec planes-of-requires away-requires is-behind-requires judge-boxed-requires returns)
+    tie.close
+    (tie.spec
+    planes-of-requires
+    away-requires
+    is-behind-requires
+    judge-boxed-requires
+    is-bounded-requires
+    box-for-requires
+    returns)

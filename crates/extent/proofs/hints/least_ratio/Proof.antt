@@ -1,0 +1,50 @@
+-- `least_ratio` is safe and ends.
+use Prim.Native.Nat.{_-_, _≤_}
+use borrow.Author.Needs.{needs}
+use Rattle.extent.proofs.hints.least_ratio.Statement.{statement}
+use Rattle.extent.proofs.hints.least_ratio.Tie as tie
+
+abbrev Inv-loop : tie.InvT-loop
+Inv-loop vertices e d low₀ n i₀ low i = i ≤ n
+
+abbrev μ-loop : tie.MeasureT-loop
+μ-loop vertices e d low₀ n i₀ low i = n - i
+
+loop-holds : tie.Need-loop-holds Inv-loop μ-loop
+loop-holds c = search needs
+
+dot-at-requires : tie.Need-dot-at-requires Inv-loop μ-loop
+dot-at-requires c κs = search needs
+
+returns : tie.Need-returns Inv-loop μ-loop
+returns c = search needs
+
+dot-at-requires-2 : tie.Need-dot-at-requires-2 Inv-loop μ-loop
+dot-at-requires-2 c κs = search needs
+
+add-i : tie.Need-add-i Inv-loop μ-loop
+add-i c = search needs
+
+loop-less : tie.Need-loop-less Inv-loop μ-loop
+loop-less c = search needs
+
+loop-again : tie.Need-loop-again Inv-loop μ-loop
+loop-again c = search needs
+
+returns-2 : tie.Need-returns-2 Inv-loop μ-loop
+returns-2 c = search needs
+
+pub least-ratio-spec : {M : Type 1} → statement M
+least-ratio-spec =
+    tie.close
+    (tie.spec
+    Inv-loop
+    μ-loop
+    loop-holds
+    dot-at-requires
+    returns
+    dot-at-requires-2
+    add-i
+    loop-less
+    loop-again
+    returns-2)

@@ -1,0 +1,65 @@
+-- What the code holds of a bound along an axis. Defined, in order: planeOf (the normal 2^30 E - L D), Greatest, Frame
+-- (E, D and F are the three axes, each one way or the other), Lower (L bounds along E whatever no plane separates from
+-- the polygon), AllClear, AnyClear (the planes that show it: for L > 0 all four, for L <= 0 one of them); Bounds,
+-- Encloses.
+use mathlib.Core.Logic.{_⊎_}
+use mathlib.Core.Path.{_≡_}
+use mathlib.Core.List.{List}
+use Prim.Native.Nat.{ℕ, _≤_}
+use lib.IntN.{ℤ, pos, negℤ, natAbs, _-ℤ_, _*ℤ_}
+use lib.Signed.{_<ℤ_}
+use Rattle.sphere.specs.declared.point.Point.{Point}
+use Rattle.sphere.specs.Point.{Fits, Within}
+use Rattle.sphere.specs.Orientation.{dotOf}
+use Rattle.separation.specs.Separation.{Ahead}
+use Rattle.separation.specs.Planes.{Behind}
+use Rattle.extent.specs.declared.sides.Sides.{Sides}
+use Rattle.extent.specs.Sides.{unit, greatest, axis, InBox}
+
+unfoldable pub planeOf : Point → Point → ℤ → Point
+planeOf E D L = record {
+  x = pos unit *ℤ E .x -ℤ L *ℤ D .x;
+  y = pos unit *ℤ E .y -ℤ L *ℤ D .y;
+  z = pos unit *ℤ E .z -ℤ L *ℤ D .z;
+}
+
+-- m is the greatest of three numbers in size.
+pub record Greatest (m : ℕ) (e d f : ℤ) : Type 0 where
+  pub at-e : natAbs e ≤ m
+  pub at-d : natAbs d ≤ m
+  pub at-f : natAbs f ≤ m
+  pub one : (natAbs e ≡ m) ⊎ ((natAbs d ≡ m) ⊎ (natAbs f ≡ m))
+
+pub record Frame (E D F : Point) : Type 0 where
+  pub at-e : Within 1 E
+  pub at-d : Within 1 D
+  pub at-f : Within 1 F
+  pub each : (P : Point) → Greatest (greatest P) (dotOf E P) (dotOf D P) (dotOf F P)
+
+pub record Lower (vs : List ℤ) (E : Point) (L : ℤ) : Type 0 where
+  pub in-range : Fits unit L
+  pub behind : (P : Point) → (pos unit *ℤ dotOf E P) <ℤ (L *ℤ pos (greatest P)) → Behind vs P
+
+pub record AllClear (vs : List ℤ) (E D F : Point) (L : ℤ) : Type 0 where
+  pub at-d : Ahead vs (planeOf E D L)
+  pub back-d : Ahead vs (planeOf E D (negℤ L))
+  pub at-f : Ahead vs (planeOf E F L)
+  pub back-f : Ahead vs (planeOf E F (negℤ L))
+
+abbrev pub AnyClear : List ℤ → Point → Point → Point → ℤ → Type 0
+AnyClear vs E D F L =
+    (Ahead vs (planeOf E D L) ⊎ Ahead vs (planeOf E D (negℤ L)))
+    ⊎ (Ahead vs (planeOf E F L) ⊎ Ahead vs (planeOf E F (negℤ L)))
+
+-- ---- the six bounds
+
+pub record Bounds (vs : List ℤ) (sign : ℤ) (r : Point) : Type 0 where
+  pub along-x : Lower vs (axis sign (pos 0) (pos 0)) (r .x)
+  pub along-y : Lower vs (axis (pos 0) sign (pos 0)) (r .y)
+  pub along-z : Lower vs (axis (pos 0) (pos 0) sign) (r .z)
+
+-- Whatever no plane separates from the polygon lies in the box.
+pub record Encloses (vs : List ℤ) (s : Sides) : Type 0 where
+  pub low-range : Within unit (s .low)
+  pub high-range : Within unit (s .high)
+  pub each : (P : Point) → (Behind vs P → ⊥) → InBox s P
