@@ -14,8 +14,12 @@
  *     cc client.c $(pkg-config --cflags --libs spargolutta)
  *
  * C99 or later, or C++. The calls are written in Rattle (crate spargolutta, functions of the same names) and proved to
- * give the answers of the table below for all bytes and all numbers. Nothing but tests checks the declarations of this
- * file against that source.
+ * give the answers of the table below for all bytes and all numbers.
+ *
+ * There are two forms of the library, made from the same proved intermediate code, and they give the same answers. In
+ * the archive that Rattle compiles (x86-64 Linux) its back end is trusted, and that these declarations fit; in
+ * portable/spargolutta.c, which any C compiler builds, the translation to C and that compiler are, and that the
+ * declarations fit is checked by both. Tests compare the two with each other and with a second implementation.
  *
  * What holds of all calls:
  *

@@ -1,10 +1,11 @@
 """Wrong translators: each mutant changes one rule of mir2c, and the digest of the C that it makes has to differ.
 
-    python3 portable/mutants.py      needs target/staticlib, target/rlib and cc
+    python3 portable/mutants.py [CLASS...]      needs target/staticlib, target/rlib and cc
 
-Every rule has a mutant. One that cannot change an answer has a line that says why; one whose rule no exported call
-reaches makes the same C file, and that is said. A mutant is noticed where the translator refuses, C refuses, the program
-ends badly or does not end, or a line of the digest differs.
+Every rule has a mutant; CLASS is type, step, operand, op2, op1, rvalue or statement. A mutant that cannot change an
+answer has a line that says why; one whose rule no exported call reaches makes the same C file, and that is said. A
+mutant is noticed where the translator refuses, C refuses, the program ends badly or does not end, or a line of the
+digest differs.
 """
 import os
 import shutil
@@ -19,7 +20,7 @@ from mutant_table import MUTANTS  # noqa: E402
 import program  # noqa: E402, F401
 from rules import RULES  # noqa: E402
 
-WORK = ('3', '1500')
+WORK = ('3', '800')
 HEADER = os.path.join(ROOT, 'include', 'spargolutta.h')
 
 
@@ -59,7 +60,7 @@ def fate(folder, mutant, good, wanted):
     if built is None:
         return 'refused by the C compiler'
     try:
-        answered = run([built, *WORK], timeout=30)
+        answered = run([built, *WORK], timeout=10)
     except subprocess.TimeoutExpired:
         return 'does not end'
     if answered.returncode != 0:
@@ -76,9 +77,12 @@ def main():
     with tempfile.TemporaryDirectory() as folder:
         with open(os.path.join(folder, 'rows.c'), 'w', encoding='utf-8') as text:
             text.write(run([sys.executable, os.path.join(HERE, 'digest', 'rows.py'), HEADER]).stdout)
-        wanted = run([build(folder, 'good', os.path.join(ROOT, 'target', 'staticlib', 'libspargolutta.a')), *WORK]).stdout
+        archive = os.path.join(ROOT, 'target', 'staticlib', 'libspargolutta.a')
+        wanted = run([build(folder, 'good', archive), *WORK]).stdout
         good = run([sys.executable, os.path.join(HERE, 'mir2c'), HEADER, os.path.join(ROOT, 'target', 'rlib')]).stdout
         for rule, what, why_not, *mutant in MUTANTS:
+            if sys.argv[1:] and rule[0] not in sys.argv[1:]:
+                continue
             end = fate(folder, mutant, good, wanted)
             if end == 'SURVIVES' and why_not:
                 end = 'cannot be noticed: ' + why_not

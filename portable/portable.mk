@@ -16,7 +16,8 @@ c: $(ARCHIVE)
 c-check: $(ARCHIVE)
 	@mkdir -p $(C_LIB)
 	@python3 portable/mir2c include/spargolutta.h target/rlib > $(C_LIB)/spargolutta.c
-	@cmp $(C_LIB)/spargolutta.c $(C_FILE) || { echo "$(C_FILE) is not what 'make c' makes of the proved crates." >&2; exit 1; }
+	@cmp $(C_LIB)/spargolutta.c $(C_FILE) \
+	|| { echo "$(C_FILE) is not what 'make c' makes of the proved crates." >&2; exit 1; }
 
 # With the C compiler alone: no Rattle is needed.
 lib-c: $(C_LIB)/libspargolutta.a $(C_LIB)/libspargolutta.so
@@ -64,7 +65,7 @@ NOT_OF_C := install:: program:: charts:: portable:: which_harbour:: importer:: m
 
 # Where clang has no WebAssembly or there is no wasm-ld, the comparison says that it is missing.
 digest: $(ARCHIVE)
-	@if command -v clang wasm-ld > /dev/null; then $(MAKE) --no-print-directory wasm; \
+	@if command -v clang > /dev/null && command -v wasm-ld > /dev/null; then $(MAKE) --no-print-directory wasm; \
 		if command -v node > /dev/null; then node portable/wasm/test.mjs; fi; fi
 	@python3 portable/digest/compare.py
 

@@ -3,15 +3,15 @@
  *
  *     cc -O3 -c spargolutta.c
  *
- * It needs spargolutta.h, which says what the calls do, and no other file, no C library and no Rattle. The fine grid and
- * imports need IEEE binary64 arithmetic with neither excess precision nor fused multiply-add; on i386 that is -msse2
- * -mfpmath=sse.
+ * It needs spargolutta.h, which says what the calls do, no C library but memcpy and memset, and no Rattle. The fine
+ * grid and imports need IEEE binary64 arithmetic with neither excess precision nor fused multiply-add; on i386 that is
+ * -msse2 -mfpmath=sse.
  *
- * Made by portable/mir2c from the MIR of the proved crates (`make c`): not to be edited. That MIR is what is proved. The
- * translation to C is tested and not proved, and so is the compiler that turns the same MIR into the archive: both forms
- * are compared with each other on all calls, on machines of 32 and 64 bits and both byte orders. Numbers are unsigned C
- * numbers of their width; l0 is a function's result, l1 and on its parameters and its locals; f0 and on are the fields
- * of a struct, s0 and on those of an enum behind its tag.
+ * Made by portable/mir2c from the MIR of the proved crates (`make c`): not to be edited. That MIR is what is proved.
+ * The translation to C is tested and not proved, and so is the compiler that turns the same MIR into the archive: both
+ * forms are compared with each other on all calls, on machines of 32 and 64 bits and both byte orders. Numbers are
+ * unsigned C numbers of their width; l0 is a function's result, l1 and on its parameters and its locals; f0 and on are
+ * the fields of a struct, s0 and on those of an enum behind its tag.
  */
 #include "spargolutta.h"
 

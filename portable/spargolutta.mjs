@@ -1,5 +1,5 @@
-// Spargolutta in JavaScript: an ES module around spargolutta.wasm, which `make wasm` makes of portable/spargolutta.c. The
-// types, and what each function is for, stand in spargolutta.d.ts; include/spargolutta.h says what the calls do.
+// Spargolutta in JavaScript: an ES module around spargolutta.wasm, which `make wasm` makes of portable/spargolutta.c.
+// The types, and what each function is for, stand in spargolutta.d.ts; include/spargolutta.h says what the calls do.
 //
 //     const library = await load(bytesOrUrl);
 //     const sheet = library.open(bytes);

@@ -1,6 +1,6 @@
 /*
- * One call on a work of the bench, for callgrind to count: speed WORK SIDES GRID makes an outline of that many sides and
- * asks once. speed.py starts it with each library.
+ * One call on a work of the bench, for callgrind to count: speed WORK SIDES GRID makes an outline of that many sides
+ * and asks once. speed.py starts it with each library.
  */
 #include "spargolutta.h"
 #include <math.h>
@@ -79,11 +79,11 @@ static uint64_t ask(const char *work, size_t length, int sides, uint32_t grid, d
     if (strcmp(work, "basin") == 0)
         return spg_basin_number(vertices, vertices_len, grid);
     if (strcmp(work, "write") == 0)
-        return spg_write_number(7, 1, name, 1, 3, 7, (int32_t)limit - 100, 0, 0, 0, vertices, vertices_len, grid, redrawn,
-                                sizeof redrawn);
+        return spg_write_number(7, 1, name, 1, 3, 7, (int32_t)limit - 100, 0, 0, 0, vertices, vertices_len, grid,
+                                redrawn, sizeof redrawn);
     if (strcmp(work, "import") == 0)
-        return spg_import_number((const uint8_t *)text, write_text(sides), 7, 1, name, 1, 700000, 30000, 800001, redrawn,
-                                 sizeof redrawn);
+        return spg_import_number((const uint8_t *)text, write_text(sides), 7, 1, name, 1, 700000, 30000, 800001,
+                                 redrawn, sizeof redrawn);
     if (strcmp(work, "point") == 0)
         return (uint64_t)spg_point_x(241234567, 597654321);
     for (int i = 0; i < 8; i++)

@@ -14,7 +14,8 @@ FEED, CALL = (1.10, 1.05), (1.30, 1.10)
 WORKS = [('feed', sides, grid, FEED) for grid in ('coarse', 'fine') for sides in (1071, 4096)]
 WORKS += [('judge', sides, grid, CALL) for grid in ('coarse', 'fine') for sides in (64, 1071, 4096)]
 WORKS += [('import', 70, 'coarse', CALL), ('import', 1071, 'coarse', CALL)]
-WORKS += [(work, 1071, grid, CALL) for work in ('sheet', 'choose', 'compare', 'write', 'book') for grid in ('coarse', 'fine')]
+WORKS += [(work, 1071, grid, CALL) for work in ('sheet', 'choose', 'compare', 'write', 'book')
+          for grid in ('coarse', 'fine')]
 WORKS += [('basin', 512, 'coarse', CALL), ('basin', 512, 'fine', CALL), ('point', 3, 'coarse', CALL)]
 COUNTED = {'feed': 'spg_feed_number', 'sheet': 'spg_sheet_zone', 'point': 'spg_point_x', 'book': 'spg_book_inside'}
 
@@ -30,8 +31,9 @@ def build(folder, name, compiler, library):
 def count(program, work, sides, grid):
     """Instructions of the one call, and its answer."""
     toggled = COUNTED.get(work, f'spg_{work}_number')
-    out = subprocess.run(['valgrind', '--tool=callgrind', '--toggle-collect=' + toggled, '--callgrind-out-file=/dev/null',
-                          program, work, str(sides), grid], capture_output=True, text=True, check=True)
+    words = ['valgrind', '--tool=callgrind', '--toggle-collect=' + toggled, '--callgrind-out-file=/dev/null']
+    words += [program, work, str(sides), grid]
+    out = subprocess.run(words, capture_output=True, text=True, check=True)
     return int(re.search(r'Collected : (\d+)', out.stderr)[1]), out.stdout
 
 
@@ -43,7 +45,8 @@ def main():
     compilers = [name for name in ('gcc', 'clang') if shutil.which(name)]
     archive = build(folder, 'archive', 'cc', os.path.join(ROOT, 'target', 'staticlib', 'libspargolutta.a'))
     forms = [build(folder, name, name, os.path.join(ROOT, 'portable', 'spargolutta.c')) for name in compilers]
-    print('\nThe C form beside the archive, thousands of instructions'.ljust(60), *(name.rjust(16) for name in compilers))
+    title = '\nThe C form beside the archive, thousands of instructions'
+    print(title.ljust(60), *(name.rjust(16) for name in compilers))
     over = 0
     for work, sides, grid, most in WORKS:
         ours, answer = count(archive, work, sides, grid)

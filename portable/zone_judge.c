@@ -1,6 +1,6 @@
 /*
- * The program zone_judge for machines without the Rattle toolchain: a plain C main around the library. It is not proved,
- * and the host tests compare its output with the proved one's. `man zone_judge` says what it does.
+ * The program zone_judge for machines without the Rattle toolchain: a plain C main around the library. It is not
+ * proved, and the host tests compare its output with the proved one's. `man zone_judge` says what it does.
  */
 #include "spargolutta.h"
 #include <errno.h>

@@ -1,5 +1,5 @@
-//! Links the archive that `make lib` writes or, with SPG_FORM=c, the one that `make lib-c` makes of portable/spargolutta.c:
-//! one suite, two libraries.
+//! Links the archive that `make lib` writes or, with SPG_FORM=c, the one that `make lib-c` makes of
+//! portable/spargolutta.c: one suite, two libraries.
 
 use std::env;
 

@@ -37,8 +37,8 @@ def run(words, **more):
 
 def build(name, compiler, library, flags):
     program = os.path.join(OUT, name)
-    run([compiler, *WARNINGS, *flags, '-I' + HERE, '-I' + os.path.join(ROOT, 'include'), os.path.join(OUT, 'rows.c'), *SOURCES,
-         library, '-o', program])
+    folders = ['-I' + HERE, '-I' + os.path.join(ROOT, 'include')]
+    run([compiler, *WARNINGS, *flags, *folders, os.path.join(OUT, 'rows.c'), *SOURCES, library, '-o', program])
     return [program]
 
 

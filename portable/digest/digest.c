@@ -1,7 +1,7 @@
 /*
- * The digest: every call of spargolutta.h on the same inputs, whatever library and machine it is built for. Two libraries
- * answer alike where the texts are equal: a line a call, with how often it was asked and a hash of all its answers and of
- * every byte that it was lent to write to; then how often each number was the answer.
+ * The digest: every call of spargolutta.h on the same inputs, whatever library and machine it is built for. Two
+ * libraries answer alike where the texts are equal: a line a call, with how often it was asked and a hash of all its
+ * answers and of every byte that it was lent to write to; then how often each number was the answer.
  *
  *     digest SEED ROUNDS
  *

@@ -37,9 +37,9 @@ int32_t make_longitude(void);
 int32_t make_latitude(void);
 
 /*
- * The arguments of a round, by the names of the header's parameters: rows.py writes each call with them. X and X_len are
- * what a call reads, X_room is the length of a buffer X that it writes to, and room that of any other. A call with a
- * parameter that is not here is refused by rows.py: give it a member, and make_inputs or make_numbers a line.
+ * The arguments of a round, by the names of the header's parameters: rows.py writes each call with them. X and X_len
+ * are what a call reads, X_room is the length of a buffer X that it writes to, and room that of any other. A call with
+ * a parameter that is not here is refused by rows.py: give it a member, and make_inputs or make_numbers a line.
  */
 struct inputs {
     const uint8_t *sheet, *left, *right, *book, *queries, *candidates, *vertices, *text, *name, *degrees;

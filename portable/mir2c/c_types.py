@@ -1,4 +1,4 @@
-"""MIR's types in C. Layout: logic/Prog/Memory.antt; each C type is declared once, after those that it holds by value."""
+"""MIR's types in C (logic/Mir/Syntax.antt). Each is declared once, after those that it holds by value."""
 import json
 import re
 
@@ -104,8 +104,8 @@ class Types:
         return refuse('field of', name)
 
     def slots(self, symbol):
-        """The fields of an enum's C struct behind the tag, and for each variant the slot of each of its fields. Variants
-        share slots of one type: a compiler then keeps an enum in registers, which it does not of a union."""
+        """The fields of an enum's C struct behind the tag, and for each variant the slot of each of its fields.
+        Variants share slots of one type: a compiler then keeps an enum in registers, which it does not of a union."""
         slots, places = [], []
         for fields in self.shape(symbol)[1]:
             free, own = list(range(len(slots))), []
@@ -190,5 +190,6 @@ def named_type(types, inside):
         if kind != 'Variants':
             refuse('shape', kind)
         slots = [types.c(ty) for ty in types.slots(inside['name'])[0]]
-        return f'struct {{ {" ".join(["uint8_t tag;"] + [declare(slot, f"s{i}") + ";" for i, slot in enumerate(slots)])} }}'
+        fields = ['uint8_t tag'] + [declare(slot, f's{i}') for i, slot in enumerate(slots)]
+        return f'struct {{ {"; ".join(fields)}; }}'
     return types.declared({'Named': inside}, 'type_' + identifier(inside['name']), text)

@@ -40,8 +40,8 @@ def arguments(program, function, prototype):
         if is_slice(local['ty']):
             count = left.pop(0)
             element = split(local['ty']['Struct'][1][0])[1]
-            mutable = element[1] == 'Mut'
-            if element[2] != {'Int': 8} or count.type != 'size_t' or first.type != ('' if mutable else 'const ') + 'uint8_t *':
+            wanted = 'uint8_t *' if element[1] == 'Mut' else 'const uint8_t *'
+            if element[2] != {'Int': 8} or (first.type, count.type) != (wanted, 'size_t'):
                 refuse(prototype.name, 'lends', local['ty'], 'where the header has', first.text)
             out.append(f'lent({first.name}, {count.name})')
         else:
@@ -63,4 +63,5 @@ def definition(program, prototype):
     if prototype.result.startswith('int'):
         call = f'signed{bits}({call})'
     parameters = ', '.join(one.text for one in prototype.parameters)
-    return [f'{prototype.result} {prototype.name}({parameters})', '{', f'    return ({prototype.result}){call};', '}', '']
+    head = f'{prototype.result} {prototype.name}({parameters})'
+    return [head, '{', f'    return ({prototype.result}){call};', '}', '']

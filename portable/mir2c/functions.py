@@ -36,8 +36,8 @@ class Function:
             self.known.clear()
         self.lines.append('    ' * self.depth + text)
 
-    # Known of locals in straight code: that one is the sum of another and a constant, (to,) = (x, constant); and that one
-    # is a pointer moved on, (x, y) = (to,).
+    # Known of locals in straight code: that one is the sum of another and a constant, (to,) = (x, constant); and that
+    # one is a pointer moved on, (x, y) = (to,).
 
     def is_value(self, text):
         """Whether it is a local, or a field of one, that no pointer reaches."""
@@ -90,7 +90,7 @@ class Function:
         return declare(f'static {storage}{result}', f'{self.symbol(self.name)}{end}({parameters or "void"})')
 
     def switch(self):
-        """The parameter that a loop would ask about in each turn: an enum of two variants without fields, the grid say."""
+        """The parameter that a loop would ask about in each turn: an enum of two bare variants, the grid say."""
         for name, ty in self.parameters():
             kind, inside = split(ty)
             if kind == 'Named' and self.types.shape(inside['name']) == ('Variants', [[], []]):

@@ -33,8 +33,8 @@ def place(function, node):
 
 @rule('step', 'Deref')
 def deref(function, x, ty):
-    """Through a reference, or through a raw pointer, which is first made one to what is read there: numbers alone, whose
-    size is the same in C as in MIR, so that the sums of bytes that MIR has in it are right."""
+    """Through a reference, or through a raw pointer, which is first made one to what is read there: numbers alone,
+    whose size is the same in C as in MIR, so that the sums of bytes that MIR has in it are right."""
     if x.type == 'Ptr':
         width(ty, 'behind a raw pointer')
         return Typed(f'(*({declare(function.types.c(ty), "*")})(void *){x.text})', ty)

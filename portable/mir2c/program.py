@@ -78,4 +78,5 @@ class Program:
         calls = [line for prototype in self.prototypes for line in exports.definition(self, prototype)]
         with open(os.path.join(HERE, 'prelude.c'), encoding='utf-8') as file:
             prelude, lent = file.read().split('/* types */\n')
-        return prelude + '\n'.join(self.types.declarations) + '\n' + lent + '\n' + '\n'.join(heads + [''] + bodies + calls)
+        types, functions = '\n'.join(self.types.declarations), '\n'.join(heads + [''] + bodies + calls)
+        return prelude + types + '\n' + lent + '\n' + functions

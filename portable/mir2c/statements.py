@@ -143,7 +143,7 @@ def if_(function, at, node):
 
 @rule('statement', 'Switch')
 def switch(function, at, node):
-    """The machine is stuck where no key matches, which is proved not to happen: so the last arm takes all that is left."""
+    """The machine is stuck where no key matches, which is proved not to happen: the last arm takes what is left."""
     value, arms, default = node
     if default:
         refuse('switch with a default')
@@ -159,8 +159,8 @@ def switch(function, at, node):
     return at
 
 
-# Blocks and loops are numbered from the innermost, 0, outwards. `Exit n` leaves the n-th: a block goes on after it, a loop
-# takes its next turn. In C it is a goto to a label at the end of either.
+# Blocks and loops are numbered from the innermost, 0, outwards. `Exit n` leaves the n-th: a block goes on after it, a
+# loop takes its next turn. In C it is a goto to a label at the end of either.
 
 
 @rule('statement', 'Block')

@@ -1,4 +1,4 @@
-"""page.py SEED ROUNDS: the digest and the octant in headless Chromium, with nothing fetched; prints what the page shows.
+"""page.py SEED ROUNDS: the octant and the digest in headless Chromium, with nothing fetched; prints what is shown.
 
 The page holds both modules and the two scripts, so that it opens from a file. 2 as status where there is no Chromium.
 """

@@ -1,5 +1,5 @@
-// The ES module under node: `node portable/wasm/test.mjs`, after `make wasm`. Expected values are document 01's octant and
-// what the header's table says.
+// The ES module under node: `node portable/wasm/test.mjs`, after `make wasm`. Expected values are document 01's octant
+// and what the header's table says.
 import assert from 'node:assert/strict';
 import { readFileSync, statSync } from 'node:fs';
 import { load, Refusal } from '../spargolutta.mjs';

@@ -67,7 +67,11 @@ fn same_output(plain: &mut Command, name: &str, sheet: Option<&[u8]>, input: &[u
         run_in_pieces(program, input, 65_536)
     });
     assert_eq!(ours.stdout, theirs.stdout, "{name}");
-    assert_eq!((ours.stderr.is_empty(), ours.status.code()), (theirs.stderr.is_empty(), theirs.status.code()), "{name}");
+    assert_eq!(
+        (ours.stderr.is_empty(), ours.status.code()),
+        (theirs.stderr.is_empty(), theirs.status.code()),
+        "{name}"
+    );
     ours
 }
 
