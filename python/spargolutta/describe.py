@@ -100,8 +100,9 @@ def differences(left: Zone, right: Zone) -> List[str]:
     found = [f"{FIELDS[number]}: {values[number]}" for number in fields]
     way, place = lib.spg_compare_way(*both), lib.spg_compare_place(*both)
     if way == 2 or (way == 1 and place):
-        found.append("same ring, " + ("run backwards, " if way == 2 else "") + f"started elsewhere: vertex {place} of "
-                     f"the new one is vertex 0 of the old one, {_place(left.vertices[0])}")
+        how = "run backwards" if way == 2 else "started elsewhere"
+        found.append(f"same ring, {how}: vertex {place} of the new one is vertex 0 of the old one, "
+                     f"{_place(left.vertices[0])}")
     return found
 
 

@@ -143,19 +143,26 @@ def which_zones(args: argparse.Namespace, report: Report) -> None:
     which.run([loaded.zone for loaded in found], args.stops, wanted_of(args), args.all, args.json, report)
 
 
+def _is_zone(path: str) -> bool:
+    """Whether a path has zones: a folder, a map, a sheet or a book. Raises Failure."""
+    if os.path.isdir(path):
+        return True
+    data = inputs.read(path)
+    return inputs.is_map(data) or inputs.is_sheet(data)
+
+
 def draw_zones(args: argparse.Namespace, report: Report) -> None:
     """A page or a picture of zones and stops; the last file is one of stops if it is no zone."""
     paths, last = list(args.zones), args.zones[-1]
-    data = b"\x01" if os.path.isdir(last) or last == "-" else inputs.read(last)[:100]
-    stops_path = None if inputs.is_map(data) or inputs.is_sheet(data) else paths.pop()
+    stops_path = paths.pop() if last == "-" or not _is_zone(last) else None
     found = [loaded.zone for loaded in inputs.zones(paths, options_of(args), report)]
     if not found:
         raise Failure(last, "no zone to draw")
     stops = []
     if stops_path is not None:
         with which.open_stops(stops_path) as file:
-            read = Stops(file, stops_path, wanted_of(args), report)
-            stops = draw.stop_data(found, read, stops_path, report)
+            called = "standard input" if stops_path == "-" else stops_path
+            stops = draw.stop_data(found, Stops(file, called, wanted_of(args), report), called, report)
     if args.output.endswith(".svg"):
         write(args.output, svg.picture(found, stops))
         return

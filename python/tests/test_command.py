@@ -131,6 +131,15 @@ class Sheets(Files):
         self.assertRegex(run("compare", old, moved).stdout, "^same ring, started elsewhere: vertex 9 of the new one is "
                          "vertex 0 of the old one, 23\\.6[0-9]* east, 37\\.92[0-9]* north\n$")
 
+    def test_compare_backwards(self) -> None:
+        old = self.sheet("old.sheet", "spatialite.geojson")
+        zone = spg.Zone(old.read_bytes())
+        parts = [zone.vertex_bytes[i:i + 12] for i in (24, 12, 0)]
+        new = self.folder / "new.sheet"
+        new.write_bytes(spg.Zone.write(b"".join(parts), zone.known, 1, zone.name).sheet)
+        told = run("compare", old, new).stdout
+        self.assertRegex(told, "^same ring, run backwards: vertex 2 of the new one is vertex 0 of the old one, ")
+
     def test_book(self) -> None:
         one, two, out = self.sheet(), self.sheet("b.sheet", "spatialite.geojson"), self.folder / "x.book"
         self.assertEqual(run("book", one, two, "-o", out).returncode, 0)
@@ -147,6 +156,9 @@ class Draw(Files):
         titles = [title.text for title in ElementTree.parse(out).iter("{http://www.w3.org/2000/svg}title")]
         self.assertEqual(titles, ["1 Λιμάνι", "x <X>, inside", "y Y, outside", "z Z, boundary"])
         self.assertEqual(run("draw", self.folder, "-o", out).returncode, 0)
+        again = self.folder / "again.svg"
+        run("draw", self.folder / "harbour.sheet", "-", "-o", again, stdin=stops.read_bytes())
+        self.assertIn("z Z, boundary", again.read_text("utf-8"))
 
     def test_page_without_stops(self) -> None:
         out = self.folder / "map.html"

@@ -166,9 +166,9 @@ class Refusals(unittest.TestCase):
         # Some metres wide: no point of the coarse grid is inside, and the nearest ones are outside the outline.
         sliver = self.file("sliver.geojson", polygon((10.8802325, 50.0868526), (10.8802025, 50.0867538),
                                                      (10.8801928, 50.0867361), (10.8802325, 50.0868526)))
-        self.told(f"{sliver}: refused: with the known point 10.8802292 east, 50.0868424 north the far side of the globe "
-                  "is inside: the known point is wrong, the zone is as small as the grid's steps (--grid fine), or it is "
-                  "larger than a hemisphere (--far-side-inside)", "zone", sliver, "-o", out)
+        self.told(f"{sliver}: refused: with the known point 10.8802292 east, 50.0868424 north the far side of the "
+                  "globe is inside: the known point is wrong, the zone is as small as the grid's steps (--grid fine), "
+                  "or it is larger than a hemisphere (--far-side-inside)", "zone", sliver, "-o", out)
         self.assertEqual(run("zone", sliver, "--far-side-inside", "-o", out).returncode, 0)
         self.assertEqual(run("zone", sliver, "--grid", "fine", "-o", out).returncode, 0)
 

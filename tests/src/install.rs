@@ -97,8 +97,11 @@ fn expected(built: &Path, lib: &str) -> BTreeMap<String, String> {
     files.extend(examples.map(|name| (format!("share/spargolutta/examples/{name}"), "644")));
     let package = tree(&repository("python/spargolutta")).into_keys();
     let wasm = built.join("target/wasm/spargolutta.wasm").exists().then(|| "spargolutta.wasm".to_string());
-    let sources = package.filter(|name| [".py", ".js", ".html", ".typed"].iter().any(|end| name.ends_with(end)));
-    files.extend(sources.chain(wasm).map(|name| (format!("share/spargolutta/python/spargolutta/{name}"), "644")));
+    let sources =
+        package.filter(|name| [".py", ".js", ".html", ".typed"].iter().any(|end| name.ends_with(end)));
+    files.extend(
+        sources.chain(wasm).map(|name| (format!("share/spargolutta/python/spargolutta/{name}"), "644")),
+    );
     let numbers = "share/spargolutta/numbers.tsv";
     files.extend(repository(numbers).exists().then(|| (numbers.to_string(), "644")));
     let mut expected: BTreeMap<String, String> =
@@ -166,7 +169,8 @@ fn install_messages() {
 fn install_unbuilt() {
     let scratch = scratch("install-unbuilt");
     let tree_of = scratch.path("tree");
-    let parts = ["Makefile", "packaging", "include", "portable", "python", "man", "examples", "share"].map(repository);
+    let parts = ["Makefile", "packaging", "include", "portable", "python", "man", "examples", "share"]
+        .map(repository);
     fs::create_dir(&tree_of).expect("folder");
     output_of(command("cp", ["-r"]).args(parts).arg(&tree_of), &[]);
     let refusal = scratch.refusal(["-C", &tree_of, "install", "PREFIX=/nowhere", "DESTDIR="]);

@@ -1,6 +1,7 @@
 //! The example that makes a zone from a closed ring in degrees: rings of known shapes become sheets, and stops whose
 //! place is known from the shape, not from the ring's sides, are judged by them.
 
+mod geojson;
 mod shapes;
 
 use crate::client::{compile, flags};

@@ -1,12 +1,10 @@
-//! The import as C programs get it: on guarded pages, its stack, and the example that makes a sheet from a file.
+//! The import as C programs get it: on guarded pages, and its stack.
 
 use super::BASES;
 use crate::client::{compile, flags, row};
-use crate::host::{command, output_of, run_in_pieces, Folder};
-use crate::imports::{circle, given, point, point_on, text};
+use crate::host::{output_of, Folder};
+use crate::imports::{circle, given, point_on, text};
 use crate::reference;
-use crate::sheet::Sheet;
-use std::fs;
 
 /// Texts at the very ends of pages, under AddressSanitizer: good, cut at each byte, with buffers of any length.
 #[test]
@@ -50,55 +48,4 @@ fn geojson_stack() {
     let needed: usize = output_of(client.arg("stack"), &case).trim().parse().expect("bytes");
     println!("stack, import: {needed} bytes, those of starting a thread among them");
     assert!(needed <= 60_000, "more than the room kept free below the promise");
-}
-
-/// The example: a square quay, with a stop on a vertex that is on the boundary.
-#[test]
-fn geojson_import_zone() {
-    let folder = Folder::new("import-zone");
-    let program = compile(&folder, "examples/import_zone.c", &[], &flags());
-    let square =
-        r#"{"type":"Polygon","coordinates":[[[23.5,37.5],[24,37.5],[24,38],[23.5,38],[23.5,37.5]]]}"#;
-    let import = |words: [&str; 6]| {
-        let mut run = command(program.get_program(), words);
-        let output = run_in_pieces(run.current_dir(folder.path("")), &[], 1);
-        assert!(output.stdout.is_empty());
-        (output.status.code(), String::from_utf8(output.stderr).expect("text"))
-    };
-    folder.write("zone.json", square.as_bytes());
-    let words = ["zone.json", "7", "Quay", "23.7", "37.75", "zone.sheet"];
-    assert_eq!(import(words), (Some(0), String::new()));
-    let written = fs::read(folder.path("zone.sheet")).expect("sheet");
-    let corners = [[235, 375], [240, 375], [240, 380], [235, 380]];
-    let degrees = |[lon, lat]: [i32; 2]| point(lon * 1_000_000, lat * 1_000_000);
-    let mut sheet = Sheet::new(point(237_000_000, 377_500_000), &corners.map(degrees));
-    sheet.name = b"Quay".to_vec();
-    assert_eq!(written, sheet.bytes());
-    assert_eq!(reference::judge(&written, degrees([240, 380])).number, 3);
-
-    let refused = |words, line: &str| assert_eq!(import(words), (Some(1), format!("refused: {line}\n")));
-    refused(
-        ["zone.json", "7", "Quay", "23.5", "90.0000001", "none"],
-        "known point: latitude past 90 or longitude past 180 degrees (31), place 0",
-    );
-    refused(
-        ["zone.json", "7", "Quay", "214.8", "37.75", "none"],
-        "known point: latitude past 90 or longitude past 180 degrees (31), place 0",
-    );
-    refused(
-        ["zone.json", "7", "", "23.7", "37.75", "none"],
-        "zone.json: length not allowed in the sheet (22), place 0",
-    );
-    folder.write("cut.json", &square.as_bytes()[..40]);
-    refused(
-        ["cut.json", "7", "Quay", "23.7", "37.75", "none"],
-        "cut.json: not one GeoJSON Polygon of the kind that is read (30), place 40",
-    );
-    assert!(!folder.path("none").exists());
-    for (place, bad) in [(1, "7x"), (1, "-7"), (1, "4294967296"), (3, "1e1"), (4, ".5")] {
-        let mut words = words;
-        words[place] = bad;
-        assert_eq!(import(words).0, Some(2), "{bad}");
-    }
-    assert_eq!(import(["missing", "7", "Quay", "23.7", "37.75", "none"]).0, Some(2));
 }
