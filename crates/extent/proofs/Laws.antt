@@ -1,5 +1,3 @@
 pub mod Told
-pub mod Lower
 pub mod Frames
 pub mod Held
-pub mod Cleared

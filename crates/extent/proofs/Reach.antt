@@ -29,7 +29,8 @@ use Rattle.sheet.specs.Sheet.{knownOf, verticesOf, secondOf, sheetCheck}
 use Rattle.zone.specs.Judge.{sheetAnswerOf}
 use Rattle.extent.specs.declared.measure.Extent.{Extent}
 use Rattle.extent.specs.declared.sides.Sides.{Sides}
-use Rattle.extent.specs.Sides.{unit, InBox, wholeSides, isFronted, boxBytes}
+use Rattle.separation.specs.Axes.{unit}
+use Rattle.extent.specs.Sides.{InBox, wholeSides, isFronted, boxBytes}
 use Rattle.extent.specs.Extent.{isOutside, isBounded, Measured, Told}
 use Rattle.extent.specs.Boxes.{boundedOf, boxCheck, Holds}
 use Rattle.extent.proofs.Claims.{far-alike}

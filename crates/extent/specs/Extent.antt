@@ -22,7 +22,7 @@ use Rattle.zone.specs.Judge.{sheetAnswerOf}
 use Rattle.extent.specs.declared.measure.Extent.{Extent}
 use Rattle.extent.specs.declared.sides.Sides.{Sides}
 use Rattle.extent.specs.Sides.{isFronted, wholeSides}
-use Rattle.extent.specs.Axes.{Encloses}
+use Rattle.extent.specs.Sides.{Encloses}
 
 pub record Plane (vs : List ℤ) : Type 0 where
   pub normal : Point

@@ -5,12 +5,12 @@ ghost use lib.IntN.{natAbs};
 ghost use Rattle.sphere.specs.Point.{fine, Within};
 ghost use Rattle.polygon.specs.Accepted.{Gridded};
 ghost use Rattle.separation.specs.Separation.{reverse};
-ghost use Rattle.extent.specs.Sides.{unit, wholeSides, isFronted};
-ghost use Rattle.extent.specs.Axes.{Bounds, Encloses};
-use crate::axes::LEAST;
-use crate::axes::UNIT;
-use crate::axes::bound;
-use crate::axes::opposite;
+ghost use Rattle.separation.specs.Axes.{unit};
+ghost use Rattle.extent.specs.Sides.{wholeSides, isFronted, Bounds, Encloses};
+use separation::axes::LEAST;
+use separation::axes::UNIT;
+use separation::axes::bound;
+use separation::axes::opposite;
 use separation::planes::is_ahead;
 use sphere::point::Point;
 
@@ -20,7 +20,7 @@ pub struct Sides {
     pub high: Point,
 }
 
-pub fn whole() -> Sides
+pub(crate) fn whole() -> Sides
     ensures { λ r. ⌜ r ≡ wholeSides ⌝ }
 {
     Sides {
@@ -78,7 +78,7 @@ fn turned(p: Point) -> Point
     }
 }
 
-pub fn sides_of(vertices: &[i32]) -> Sides
+pub(crate) fn sides_of(vertices: &[i32]) -> Sides
     requires { ⌜ Gridded fine (now vertices) ⌝ }
     ensures { λ r. ⌜ Encloses (now (vertices .entry)) r ⌝ }
 {
@@ -89,7 +89,7 @@ pub fn sides_of(vertices: &[i32]) -> Sides
 }
 
 // All vertices are strictly on one side of a coordinate plane.
-pub fn is_fronted(vertices: &[i32]) -> bool
+pub(crate) fn is_fronted(vertices: &[i32]) -> bool
     requires { ⌜ Gridded fine (now vertices) ⌝ }
     ensures { λ r. ⌜ r ≡ isFronted (now (vertices .entry)) ⌝ }
 {

@@ -15,8 +15,9 @@ use Rattle.integers.proofs.Identity.{_:+_, _:*_, _:=_, ints}
 use Rattle.sphere.specs.declared.point.Point.{Point}
 use Rattle.sphere.specs.Point.{Fits, Within}
 use Rattle.sphere.specs.Orientation.{dotOf}
-use Rattle.extent.specs.Sides.{moreOf, greatest, axis}
-use Rattle.extent.specs.Axes.{Greatest, Frame}
+use Rattle.separation.specs.Axes.{moreOf, greatest}
+use Rattle.extent.specs.Sides.{axis}
+use Rattle.separation.specs.Axes.{Greatest, Frame}
 
 more-left : (m n : ℕ) → m ≤ moreOf m n
 more-left m n = go (ltb m n) refl

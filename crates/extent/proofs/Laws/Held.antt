@@ -15,9 +15,11 @@ use Rattle.separation.specs.Separation.{reverse}
 use Rattle.separation.specs.Planes.{Behind}
 use Rattle.separation.proofs.Behind.{reverse-within}
 use Rattle.extent.specs.declared.sides.Sides.{Sides}
-use Rattle.extent.specs.Sides.{unit, greatest, axis, Between, InBox, wholeSides}
-use Rattle.extent.specs.Axes.{Lower, Bounds, Encloses}
-use Rattle.extent.proofs.Laws.Lower.{u-positive, below-size, above-size}
+use Rattle.separation.specs.Axes.{unit, greatest}
+use Rattle.extent.specs.Sides.{axis, Between, InBox, wholeSides}
+use Rattle.separation.specs.Axes.{Lower}
+use Rattle.extent.specs.Sides.{Bounds, Encloses}
+use Rattle.separation.proofs.Laws.Lower.{u-positive, below-size, above-size}
 use Rattle.extent.proofs.Laws.Frames.{greatest-sizes, dot-forward, dot-backward}
 
 pub not-less : (a b : ℤ) → (a <ℤ b → ⊥) → b ≤ℤ a

@@ -6,8 +6,8 @@ use mir.Val.{toZ, ofZ}
 use mir.ValLaws.{toZ-ofZ}
 use borrow.Author.Needs.{sfits-of}
 use Rattle.extent.specs.Sides.{axis}
-use Rattle.extent.specs.Axes.{Frame}
-use Rattle.extent.proofs.Laws.Cleared.{moved-lower}
+use Rattle.separation.specs.Axes.{Frame}
+use Rattle.separation.proofs.Laws.Cleared.{moved-lower}
 use Rattle.extent.proofs.Laws.Frames.{frame-x, frame-y, frame-z}
 use Rattle.extent.proofs.sides.bounds.Statement.{statement}
 use Rattle.extent.proofs.sides.bounds.Tie as tie

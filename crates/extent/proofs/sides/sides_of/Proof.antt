@@ -1,7 +1,7 @@
 -- `sides_of` meets its contract.
 use mathlib.Core.Path.{_≡_, refl, sym, subst}
 use borrow.Author.Needs.{needs}
-use Rattle.extent.specs.Axes.{Encloses}
+use Rattle.extent.specs.Sides.{Encloses}
 use Rattle.extent.proofs.Laws.Held.{enclosed}
 use Rattle.extent.proofs.sides.sides_of.Statement.{statement}
 use Rattle.extent.proofs.sides.sides_of.Tie as tie

@@ -7,10 +7,10 @@ use borrow.Author.Tests.{ltb-false}
 use lib.IntN.{ℤ, natAbs}
 use Rattle.sphere.specs.declared.point.Point.{Point}
 use Rattle.sphere.specs.Point.{Fits, isFar}
 use Rattle.separation.specs.Separation.{Ahead, isAhead}
 use Rattle.separation.proofs.Laws.Screened.{test→ahead}
-use Rattle.extent.specs.Sides.{unit}
-use Rattle.extent.specs.Axes.{planeOf, Lower}
+use Rattle.separation.specs.Axes.{unit}
+use Rattle.separation.specs.Axes.{planeOf, Lower}
 
 pub cleared : (vs : List ℤ) (E D : Point) {r : Bool} (L M : ℤ) → r ≡ isAhead vs (planeOf E D M) → M ≡ L → r ≡ true →
     Ahead vs (planeOf E D L)

@@ -7,9 +7,9 @@ use mir.Syntax.{w64}
 use mir.Val.{toZ, ofZ}
 use mir.ValLaws.{toZ-ofZ}
 use Rattle.integers.proofs.Compare.{result-same}
-use Rattle.extent.proofs.Laws.Cleared.{cleared}
-use Rattle.extent.proofs.axes.clears_any.Statement.{statement}
-use Rattle.extent.proofs.axes.clears_any.Tie as tie
+use Rattle.separation.proofs.Laws.Cleared.{cleared}
+use Rattle.separation.proofs.axes.clears_any.Statement.{statement}
+use Rattle.separation.proofs.axes.clears_any.Tie as tie
 
 number : (c : tie.Start) → toZ w64 (ofZ w64 (c .args .l)) ≡ c .args .l
 number c = toZ-ofZ w64 (c .args .l) (c .fits .l)

@@ -7,9 +7,9 @@ use Rattle.integers.proofs.Polynomial.{con, neg}
 use Rattle.integers.proofs.Identity.{_:-_, _:=_, ints}
 use Rattle.integers.proofs.Range.{Formula, number, _⊖_, formula-fits, formula-same, formula-is}
 use Rattle.sphere.specs.Point.{Fits}
-use Rattle.extent.specs.Sides.{unit}
-use Rattle.extent.proofs.axes.opposite.Statement.{statement}
-use Rattle.extent.proofs.axes.opposite.Tie as tie
+use Rattle.separation.specs.Axes.{unit}
+use Rattle.separation.proofs.axes.opposite.Statement.{statement}
+use Rattle.separation.proofs.axes.opposite.Tie as tie
 
 abbrev from-zero : (k : ℤ) → Fits unit k → Formula
 from-zero k f = number (pos 0) 0 (le-refl 0) ⊖ number k unit (f .within)

@@ -7,12 +7,12 @@ use lib.Signed.{ltZ-no}
 use mir.Syntax.{w64}
 use mir.Val.{toZ, ofZ}
 use Rattle.sphere.specs.Point.{Fits}
-use Rattle.extent.specs.Sides.{unit}
-use Rattle.extent.specs.Axes.{Lower}
-use Rattle.extent.proofs.Laws.Cleared.{fits-near}
-use Rattle.extent.proofs.Laws.Lower.{beside-lower, least-lower}
-use Rattle.extent.proofs.axes.beside.Statement.{statement}
-use Rattle.extent.proofs.axes.beside.Tie as tie
+use Rattle.separation.specs.Axes.{unit}
+use Rattle.separation.specs.Axes.{Lower}
+use Rattle.separation.proofs.Laws.Cleared.{fits-near}
+use Rattle.separation.proofs.Laws.Lower.{beside-lower, least-lower}
+use Rattle.separation.proofs.axes.beside.Statement.{statement}
+use Rattle.separation.proofs.axes.beside.Tie as tie
 
 is-far-requires : tie.Need-is-far-requires
 is-far-requires c κs = search needs

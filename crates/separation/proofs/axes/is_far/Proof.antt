@@ -8,9 +8,9 @@ use mir.Val.{toZ, ofZ}
 use mir.ValLaws.{toZ-ofZ}
 use Rattle.integers.proofs.Compare.{size-test}
 use Rattle.sphere.specs.Point.{isFar}
-use Rattle.extent.specs.Sides.{unit}
-use Rattle.extent.proofs.axes.is_far.Statement.{statement}
-use Rattle.extent.proofs.axes.is_far.Tie as tie
+use Rattle.separation.specs.Axes.{unit}
+use Rattle.separation.proofs.axes.is_far.Statement.{statement}
+use Rattle.separation.proofs.axes.is_far.Tie as tie
 
 far-test : (k : ℤ) → (ltZ k (negsuc 1073741823) || ltZ (pos unit) k) ≡ isFar unit k
 unfolding isFar

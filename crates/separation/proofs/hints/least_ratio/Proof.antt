@@ -1,8 +1,8 @@
 -- `least_ratio` is safe and ends.
 use Prim.Native.Nat.{_-_, _≤_}
 use borrow.Author.Needs.{needs}
-use Rattle.extent.proofs.hints.least_ratio.Statement.{statement}
-use Rattle.extent.proofs.hints.least_ratio.Tie as tie
+use Rattle.separation.proofs.hints.least_ratio.Statement.{statement}
+use Rattle.separation.proofs.hints.least_ratio.Tie as tie
 
 abbrev Inv-loop : tie.InvT-loop
 Inv-loop vertices e d low₀ n i₀ low i = i ≤ n

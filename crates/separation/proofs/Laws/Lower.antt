@@ -18,11 +18,11 @@ use Rattle.integers.proofs.Sign.{is, lt, le, gt, ge, allows-is}
 use Rattle.sphere.specs.declared.point.Point.{Point}
 use Rattle.sphere.specs.Point.{Fits}
 use Rattle.sphere.specs.Orientation.{dotOf}
 use Rattle.separation.specs.Separation.{Ahead, isAhead}
 use Rattle.separation.specs.Planes.{Behind}
 use Rattle.separation.proofs.Laws.Screened.{test→ahead}
-use Rattle.extent.specs.Sides.{unit, greatest}
-use Rattle.extent.specs.Axes.{planeOf, Greatest, Frame, Lower, AllClear, AnyClear}
+use Rattle.separation.specs.Axes.{unit, greatest}
+use Rattle.separation.specs.Axes.{planeOf, Greatest, Frame, Lower, AllClear, AnyClear}
 
 abbrev pub u : ℤ
 u = pos unit

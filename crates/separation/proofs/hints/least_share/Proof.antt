@@ -1,8 +1,8 @@
 -- `least_share` is safe and ends.
 use Prim.Native.Nat.{_-_, _≤_}
 use borrow.Author.Needs.{needs}
-use Rattle.extent.proofs.hints.least_share.Statement.{statement}
-use Rattle.extent.proofs.hints.least_share.Tie as tie
+use Rattle.separation.proofs.hints.least_share.Statement.{statement}
+use Rattle.separation.proofs.hints.least_share.Tie as tie
 
 abbrev Inv-loop : tie.InvT-loop
 Inv-loop vertices e d f low₀ n i₀ low i = i ≤ n

@@ -1,20 +1,31 @@
--- What the code holds of a bound along an axis. Defined, in order: planeOf (the normal 2^30 E - L D), Greatest, Frame
--- (E, D and F are the three axes, each one way or the other), Lower (L bounds along E whatever no plane separates from
--- the polygon), AllClear, AnyClear (the planes that show it: for L > 0 all four, for L <= 0 one of them); Bounds,
--- Encloses.
+-- Bounds along an axis of what no plane separates from a polygon, as the code holds them. Defined, in order: unit,
+-- moreOf, greatest (a point's greatest number in size); planeOf (the normal 2^30 E - L D), Greatest, Frame (E, D and F are
+-- the three axes, each one way or the other), Lower (L bounds along E, in units of 2^-30 of the greatest number, whatever
+-- no plane separates from the polygon), AllClear, AnyClear (the planes that show it: for L > 0 all four, for L <= 0 one
+-- of them).
 use mathlib.Core.Logic.{_⊎_}
 use mathlib.Core.Path.{_≡_}
+use mathlib.Core.Bool.{cond}
 use mathlib.Core.List.{List}
 use Prim.Native.Nat.{ℕ, _≤_}
+use lib.Dec.{ltb}
 use lib.IntN.{ℤ, pos, negℤ, natAbs, _-ℤ_, _*ℤ_}
 use lib.Signed.{_<ℤ_}
 use Rattle.sphere.specs.declared.point.Point.{Point}
 use Rattle.sphere.specs.Point.{Fits, Within}
 use Rattle.sphere.specs.Orientation.{dotOf}
 use Rattle.separation.specs.Separation.{Ahead}
 use Rattle.separation.specs.Planes.{Behind}
-use Rattle.extent.specs.declared.sides.Sides.{Sides}
-use Rattle.extent.specs.Sides.{unit, greatest, axis, InBox}
+
+-- 2^30
+abbrev pub unit : ℕ
+unit = 1073741824
+
+abbrev pub moreOf : ℕ → ℕ → ℕ
+moreOf m n = cond (ltb m n) n m
+
+unfoldable pub greatest : Point → ℕ
+greatest P = moreOf (natAbs (P .x)) (moreOf (natAbs (P .y)) (natAbs (P .z)))
 
 unfoldable pub planeOf : Point → Point → ℤ → Point
 planeOf E D L = record {
@@ -50,16 +61,3 @@ abbrev pub AnyClear : List ℤ → Point → Point → Point → ℤ → Type 0
 AnyClear vs E D F L =
     (Ahead vs (planeOf E D L) ⊎ Ahead vs (planeOf E D (negℤ L)))
     ⊎ (Ahead vs (planeOf E F L) ⊎ Ahead vs (planeOf E F (negℤ L)))
-
--- ---- the six bounds
-
-pub record Bounds (vs : List ℤ) (sign : ℤ) (r : Point) : Type 0 where
-  pub along-x : Lower vs (axis sign (pos 0) (pos 0)) (r .x)
-  pub along-y : Lower vs (axis (pos 0) sign (pos 0)) (r .y)
-  pub along-z : Lower vs (axis (pos 0) (pos 0) sign) (r .z)
-
--- Whatever no plane separates from the polygon lies in the box.
-pub record Encloses (vs : List ℤ) (s : Sides) : Type 0 where
-  pub low-range : Within unit (s .low)
-  pub high-range : Within unit (s .high)
-  pub each : (P : Point) → (Behind vs P → ⊥) → InBox s P

@@ -3,9 +3,9 @@ use mathlib.Core.Path.{sym, _∙_}
 use lib.Dec.{leb→le}
 use borrow.Author.Needs.{needs}
 use Rattle.sphere.proofs.Laws.Grid.{within-more}
 use Rattle.separation.specs.Planes.{steep}
-use Rattle.extent.proofs.axes.bound.Statement.{statement}
-use Rattle.extent.proofs.axes.bound.Tie as tie
+use Rattle.separation.proofs.axes.bound.Statement.{statement}
+use Rattle.separation.proofs.axes.bound.Tie as tie
 
 bound-hint-requires : tie.Need-bound-hint-requires
 bound-hint-requires c κs = search needs

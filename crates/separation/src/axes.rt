@@ -7,12 +7,11 @@ ghost use mathlib.Core.Bool.{true};
 ghost use lib.IntN.{negℤ};
 ghost use Rattle.sphere.specs.Point.{fine, Fits, Within, isFar};
 ghost use Rattle.polygon.specs.Accepted.{Gridded};
 ghost use Rattle.separation.specs.Separation.{isAhead};
 ghost use Rattle.separation.specs.Planes.{steep};
-ghost use Rattle.extent.specs.Sides.{unit};
-ghost use Rattle.extent.specs.Axes.{planeOf, Frame, Lower, AllClear, AnyClear};
+ghost use Rattle.separation.specs.Axes.{unit, planeOf, Frame, Lower, AllClear, AnyClear};
 use crate::hints::bound_hint;
-use separation::planes::is_ahead;
+use crate::planes::is_ahead;
 use sphere::point::Point;
 
 pub const UNIT: i64 = 1_073_741_824;
@@ -58,7 +57,7 @@ fn clears(vertices: &[i32], e: Point, d: Point, l: i64) -> bool
     is_ahead(vertices, plane(e, d, l))
 }
 
-pub(crate) fn opposite(l: i64) -> i64
+pub fn opposite(l: i64) -> i64
     requires { ⌜ Fits unit l ⌝ }
     ensures { λ r. ⌜ (r ≡ negℤ l) × Fits unit r ⌝ }
 {

@@ -6,11 +6,11 @@ use lib.Signed.{ltZ-yes}
 use mir.Syntax.{w64}
 use mir.Val.{toZ, ofZ}
 use Rattle.sphere.specs.Point.{Fits}
-use Rattle.extent.specs.Sides.{unit}
-use Rattle.extent.proofs.Laws.Cleared.{fits-near}
-use Rattle.extent.proofs.Laws.Lower.{below-size, forward-lower, zero-lower}
-use Rattle.extent.proofs.axes.forward.Statement.{statement}
-use Rattle.extent.proofs.axes.forward.Tie as tie
+use Rattle.separation.specs.Axes.{unit}
+use Rattle.separation.proofs.Laws.Cleared.{fits-near}
+use Rattle.separation.proofs.Laws.Lower.{below-size, forward-lower, zero-lower}
+use Rattle.separation.proofs.axes.forward.Statement.{statement}
+use Rattle.separation.proofs.axes.forward.Tie as tie
 
 is-far-requires : tie.Need-is-far-requires
 is-far-requires c κs = search needs

@@ -3,10 +3,10 @@ use mathlib.Core.Path.{_∙_, ap}
 use borrow.Author.Needs.{needs}
 use mir.Syntax.{w64}
 use mir.ValLaws.{toZ-ofZ}
 use Rattle.separation.specs.Separation.{isAhead}
-use Rattle.extent.specs.Axes.{planeOf}
-use Rattle.extent.proofs.axes.clears.Statement.{statement}
-use Rattle.extent.proofs.axes.clears.Tie as tie
+use Rattle.separation.specs.Axes.{planeOf}
+use Rattle.separation.proofs.axes.clears.Statement.{statement}
+use Rattle.separation.proofs.axes.clears.Tie as tie
 
 plane-requires : tie.Need-plane-requires
 plane-requires c κs = search needs

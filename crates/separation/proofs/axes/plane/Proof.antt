@@ -6,11 +6,11 @@ use lib.IntN.{pos, natAbs}
 use Rattle.integers.proofs.Range.{Formula, number, worked, _⊗_, _⊖_, formula-fits, formula-same, formula-is}
 use Rattle.sphere.specs.Point.{Fits, Within}
 use Rattle.sphere.proofs.Numbers.{x-of, y-of, z-of}
 use Rattle.separation.specs.Planes.{steep}
-use Rattle.extent.specs.Sides.{unit}
-use Rattle.extent.specs.Axes.{planeOf}
-use Rattle.extent.proofs.axes.plane.Statement.{statement}
-use Rattle.extent.proofs.axes.plane.Tie as tie
+use Rattle.separation.specs.Axes.{unit}
+use Rattle.separation.specs.Axes.{planeOf}
+use Rattle.separation.proofs.axes.plane.Statement.{statement}
+use Rattle.separation.proofs.axes.plane.Tie as tie
 
 abbrev U : Formula
 U = number (pos unit) unit (le-refl unit)
