@@ -27,8 +27,9 @@
 #if defined(__FAST_MATH__)
 #error "spargolutta: -ffast-math changes answers on the fine grid"
 #endif
+/* Neither gcc's fusing, nor its loop vectoriser, which takes the storing of big-endian numbers apart. */
 #if defined(__GNUC__) && !defined(__clang__)
-#pragma GCC optimize("fp-contract=off")
+#pragma GCC optimize("fp-contract=off", "no-tree-loop-vectorize")
 #else
 #pragma STDC FP_CONTRACT OFF
 #endif
