@@ -4,7 +4,7 @@ use super::told::Told;
 use super::{Call, Case, Lent};
 use crate::guard::{Edge, Room};
 use crate::random::Random;
-use std::hint::spin_loop;
+use std::hint::black_box;
 use std::slice;
 use std::sync::atomic::{AtomicBool, AtomicU8, Ordering::Relaxed};
 use std::thread;
@@ -94,8 +94,8 @@ impl Drop for AtEnd<'_> {
     }
 }
 
-/// One byte after the other, each to another value and back some dozens of times, until the end. Half of them are at
-/// the front, where a sheet has its tags and lengths.
+/// One byte after the other, each to another value and back some dozens of times, until the end; fast, as the moment
+/// between a check and what goes by it is short. Half of them are at the front, where a sheet has its tags and lengths.
 fn change(random: &mut Random, parts: &[&[AtomicU8]], ended: &AtomicBool) {
     let parts: Vec<&[AtomicU8]> = parts.iter().filter(|part| !part.is_empty()).copied().collect();
     while !ended.load(Relaxed) {
@@ -104,10 +104,10 @@ fn change(random: &mut Random, parts: &[&[AtomicU8]], ended: &AtomicBool) {
         let byte = &part[random.below(reach)];
         let before = byte.load(Relaxed);
         let other = random.pick(&[0, 1, 5, 6, 7, 12, 0x7f, 0xff, before ^ 1, before ^ 0x80]);
-        for _ in 0..50 {
+        for _ in 0..100 {
             for value in [other, before] {
                 byte.store(value, Relaxed);
-                (0..random.below(60)).for_each(|_| spin_loop());
+                (0..random.below(24)).for_each(|k| _ = black_box(k));
             }
         }
     }
