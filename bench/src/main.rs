@@ -1,6 +1,6 @@
 //! The library against document 02's P2 in checked Rust and in C: one call, the program, a feed on each grid; the index
 //! of long feeds against the boxes; the basin profile and an import against C; and a book against single calls on its
-//! sheets. The contestants take turns, and the
+//! sheets, and a feed to a book against feeds to its sheets. The contestants take turns, and the
 //! least time of many rounds counts. Prints tables, and draws the times of feeds as docs/feed-time.svg.
 //!
 //! Started with a folder and a contestant it makes one feed call, one of the basin profile, one import, or asks one
@@ -8,6 +8,7 @@
 
 mod basin;
 mod book;
+mod book_feed;
 mod calls;
 mod comparisons;
 mod feeds;
@@ -65,6 +66,7 @@ fn main() {
     feeds::compare(Grid::Fine, &works);
     instructions::compare(Grid::Fine, &works);
     book::compare();
+    book_feed::compare();
     comparisons::compare();
     geojson::compare();
     println!();
