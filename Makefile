@@ -68,9 +68,12 @@ lib: $(ARCHIVE) $(SHARED)
 
 bin: $(PROGRAM)
 
-# rt leaves alone what it finds unchanged, hence 'touch'.
+# Two objects, so that each loop over queries has its own copy of what is called in it. rt leaves alone what it finds
+# unchanged, hence 'touch'.
 $(ARCHIVE): $(SOURCES)
 	@$(call PROVE,rt staticlib spargolutta,$(call UNDER,spargolutta))
+	@$(call PROVE,rt staticlib spargolutta_books,$(call UNDER,spargolutta_books))
+	@cd $(@D) && ar x libspargolutta_books.a && ar rs $(@F) spargolutta_books.o && rm spargolutta_books.o
 	@touch $@
 
 $(PROGRAM): $(SOURCES)

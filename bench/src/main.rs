@@ -1,13 +1,14 @@
 //! The library against document 02's P2 in checked Rust and in C: one call, the program, a feed on each grid; the index
-//! of long feeds against the boxes; the basin profile, an import and points from degrees against C; and a book against
-//! single calls on its sheets. The contestants take turns, and the least processor time of many rounds counts. Prints
-//! tables, and draws the times of feeds as docs/feed-time.svg.
+//! of long feeds against the boxes; the basin profile, an import and points from degrees against C; a book against single
+//! calls on its sheets, and a feed to a book against feeds to its sheets. The contestants take turns, and the least
+//! processor time of many rounds counts. Prints tables, and draws the times of feeds as docs/feed-time.svg.
 //!
 //! Started with a folder and a contestant it makes one feed call, one of the basin profile, one import, makes points,
 //! or asks one book: what `instructions` counts.
 
 mod basin;
 mod book;
+mod book_feed;
 mod calls;
 mod clock;
 mod comparisons;
@@ -71,6 +72,7 @@ fn main() {
     feeds::compare(Grid::Fine, &works);
     instructions::compare(Grid::Fine, &works);
     book::compare();
+    book_feed::compare();
     comparisons::compare();
     geojson::compare();
     positions::compare();

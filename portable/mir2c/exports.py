@@ -1,4 +1,4 @@
-"""What the header declares, and the exported functions around those of the crate spargolutta."""
+"""What the header declares, and the exported functions around those of the C boundary's crates."""
 import re
 from collections import namedtuple
 
@@ -9,6 +9,7 @@ from rules import refuse, split
 Prototype = namedtuple('Prototype', 'result name parameters')
 Parameter = namedtuple('Parameter', 'text type name')
 
+BOUNDARY = ('spargolutta', 'spargolutta_books')
 NUMBERS = {32: ('uint32_t', 'int32_t'), 64: ('size_t', 'uint64_t', 'int64_t')}
 
 
@@ -27,8 +28,8 @@ def parameter(text):
 
 
 def symbol_of(program, name):
-    """The function of the crate spargolutta that has the call's name."""
-    found = [s for s in program.functions if s.startswith('spargolutta::') and s.split('::')[-1] == name]
+    """The function of the crates of the C boundary that has the call's name."""
+    found = [s for s in program.functions if s.split('::')[0] in BOUNDARY and s.split('::')[-1] == name]
     return found[0] if len(found) == 1 else refuse('functions named', name, found)
 
 

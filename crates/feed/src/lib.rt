@@ -1,7 +1,7 @@
 // A whole feed in one call: document 02's P1. Here, in order: size_check (26, 27), feed_boxed (26, 27, 10, 28, 11 to
 // 16), store_result, mode_for, judge_one, judge_all, judge_by_index, judge_each, judge_feed. Nothing of the polygon is
 // copied for a query, and its boxes are built once. A second point that is all zero is none (document 02, P4).
-mod indexed;
+pub mod indexed;
 
 ghost use mathlib.Core.Path.{_≡_};
 ghost use Prim.Native.Nat.{_+_, _*_, _≤_, _<_};
@@ -87,7 +87,7 @@ fn store_result(results: &mut [u8], at: usize, answer: Answer)
 }
 
 // By all edges up to 64 vertices, which is 192 numbers: with so few a look at the boxes costs a feed more than it saves.
-fn mode_for(size: usize) -> Mode
+pub fn mode_for(size: usize) -> Mode
     ensures { λ r. ⌜ asksBoxes r ≡ ltb 192 size ⌝ }
 {
     if size > 192 {

@@ -1,9 +1,9 @@
--- `book_feeds::spg_book_feed_number` meets its contract.
+-- `spg_book_feed_number` meets its contract.
 use mathlib.Core.Path.{_∙_, ap}
 use borrow.Author.Needs.{needs}
 use Rattle.answer.specs.Answer.{numberOf}
-use Rattle.spargolutta.proofs.book_feeds.spg_book_feed_number.Statement.{statement}
-use Rattle.spargolutta.proofs.book_feeds.spg_book_feed_number.Tie as tie
+use Rattle.spargolutta_books.proofs.spg_book_feed_number.Statement.{statement}
+use Rattle.spargolutta_books.proofs.spg_book_feed_number.Tie as tie
 
 book-feed-requires : tie.Need-book-feed-requires
 book-feed-requires c κs = search needs

@@ -1,9 +1,9 @@
--- `book_feeds::spg_book_feed_count` meets its contract.
+-- `spg_book_feed_count` meets its contract.
 use mathlib.Core.Path.{_∙_, ap}
 use borrow.Author.Needs.{needs}
 use Rattle.answer.specs.Answer.{countOf}
-use Rattle.spargolutta.proofs.book_feeds.spg_book_feed_count.Statement.{statement}
-use Rattle.spargolutta.proofs.book_feeds.spg_book_feed_count.Tie as tie
+use Rattle.spargolutta_books.proofs.spg_book_feed_count.Statement.{statement}
+use Rattle.spargolutta_books.proofs.spg_book_feed_count.Tie as tie
 
 feed-answer-requires : tie.Need-feed-answer-requires
 feed-answer-requires c κs = search needs
