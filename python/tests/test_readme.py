@@ -92,8 +92,7 @@ class Readme(unittest.TestCase):
         self.assertEqual(printed[2], "[Sets(inside=1, boundary=0, refused=0)]")
 
     def test_pip_install(self) -> None:
-        """Offline, into an environment of its own; built from the C file with the C compiler."""
-        self.shell(f"{sys.executable} -m venv --without-pip env")
+        """Offline, into a folder of its own; built from the C file with the C compiler."""
         pip = [sys.executable, "-m", "pip"]
         if subprocess.run([*pip, "--version"], capture_output=True, check=False).returncode != 0:
             print("pip is not there: pip install ./python is not tested", file=sys.stderr)
