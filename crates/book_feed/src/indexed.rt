@@ -12,8 +12,8 @@ ghost use Rattle.separation.specs.Separation.{awayOf};
 ghost use Rattle.separation.specs.Planes.{Sound};
 ghost use Rattle.book_feed.specs.Adding.{Prepared, addedAll};
 use crate::judged::add_judged;
-use crate::queries::query_at;
 use answer::Answer;
+use big_endian::read;
 use cones::build::build;
 use cones::build::no_index;
 use separation::planes::Planes;
@@ -118,7 +118,7 @@ fn near_at(grid: Grid, vertices: &[i32], planes: Planes, queries: &[u8], k: usiz
     requires { ⌜ Sound (now vertices) planes × (k < queryCount (now queries)) ⌝ }
     ensures { λ r. ⌜ r ≤ 1 ⌝ }
 {
-    let query = query_at(queries, k * 12);
+    let query = read::point_at(queries, k * 12);
     near_one(grid, vertices, planes, query)
 }
 

@@ -12,8 +12,8 @@ ghost use Rattle.separation.specs.Separation.{awayOf};
 ghost use Rattle.separation.specs.Planes.{Sound};
 ghost use Rattle.book_feed.specs.Adding.{Prepared, addedAll, SameSets};
 use crate::adding::add_to;
-use crate::queries::query_at;
 use answer::Answer;
+use big_endian::read;
 use cones::build::Index;
 use feed::indexed::judge_indexed;
 use feed::mode_for;
@@ -99,7 +99,7 @@ pub fn add_judged(
 {
     let n = queries.len() / 12;
     for k in 0..n {
-        let query = query_at(queries, k * 12);
+        let query = read::point_at(queries, k * 12);
         let answer = answer_for(
             grid,
             vertices,

@@ -56,13 +56,13 @@ loop-holds c =
       refl,
     )
 
-mul-query-at : tie.Need-mul-query-at Inv-loop μ-loop
-mul-query-at c =
+mul-point-at : tie.Need-mul-point-at Inv-loop μ-loop
+mul-point-at c =
     let h = c .loop-test .taken in
     record { fits = omega (arith, h, many (start (c .before))) }
 
-query-at-requires : tie.Need-query-at-requires Inv-loop μ-loop
-query-at-requires c κs = let h = c .loop-test .taken in omega arith
+point-at-requires : tie.Need-point-at-requires Inv-loop μ-loop
+point-at-requires c κs = let h = c .loop-test .taken in omega arith
 
 answer-for-requires : tie.Need-answer-for-requires Inv-loop μ-loop
 answer-for-requires c κs =
@@ -107,7 +107,7 @@ loop-again c =
       omega arith,
       added-step (a .zone) (answered l) (a .queries .now) (a .results .now) (l .loop .k) (j .answer-for .result) _ _
           (omega (arith, room)) (l .loop .inv .1)
-          (subst (λ P. SameSets (j .answer-for .result) (answered l P)) (p .query-at .ensures) (j .answer-for .ensures))
+          (subst (λ P. SameSets (j .answer-for .result) (answered l P)) (p .point-at .ensures) (j .answer-for .ensures))
           (w .add-to .ensures),
       w .add-to .kept .0 ∙ l .loop .inv .2,
       j .answer-for .kept .1 .1 .1 .1 .1 .1 .1 .0 ∙ l .loop .inv .3,
@@ -134,8 +134,8 @@ add-judged-spec =
     Inv-loop
     μ-loop
     loop-holds
-    mul-query-at
-    query-at-requires
+    mul-point-at
+    point-at-requires
     answer-for-requires
     mul-add-to
     add-to-requires
