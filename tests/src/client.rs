@@ -221,5 +221,5 @@ fn stack() {
     println!("stack, bytes, those of starting a thread among them: {}", topics.join("; "));
     let long = most.remove("long feed").expect("topic");
     assert!(long < 128 << 10, "the promise");
-    assert!(most.len() == 11 && most.values().all(|needed| *needed < 64 << 10), "the promise");
+    assert!(most.len() == 12 && most.values().all(|needed| *needed < 64 << 10), "the promise");
 }
