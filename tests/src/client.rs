@@ -222,5 +222,5 @@ fn stack() {
     for topic in ["long feed", "long book feed"] {
         assert!(most.remove(topic).expect("topic") < 128 << 10, "the promise");
     }
-    assert!(most.len() == 12 && most.values().all(|needed| *needed < 64 << 10), "the promise");
+    assert!(most.len() == 13 && most.values().all(|needed| *needed < 64 << 10), "the promise");
 }
