@@ -22,6 +22,8 @@ from rules import RULES  # noqa: E402
 
 WORK = ('3', '800')
 HEADER = os.path.join(ROOT, 'include', 'spargolutta.h')
+KIT = os.path.dirname(os.path.dirname(os.path.realpath(shutil.which('rt') or sys.exit('mutants: there is no rt'))))
+MIR = [os.path.join(ROOT, 'target', 'rlib'), os.path.join(KIT, 'on', 'x86_64', 'rlib')]
 
 
 def run(words, **more):
@@ -49,7 +51,7 @@ def fate(folder, mutant, good, wanted):
         sys.exit(f'mutants: {file} has {source.count(old)} times: {old}')
     with open(path, 'w', encoding='utf-8') as text:
         text.write(source.replace(old, new))
-    made = run([sys.executable, '-B', tool, HEADER, os.path.join(ROOT, 'target', 'rlib')])
+    made = run([sys.executable, '-B', tool, HEADER, *MIR])
     if made.returncode != 0:
         return 'refused by the translator'
     if made.stdout == good:
@@ -79,7 +81,7 @@ def main():
             text.write(run([sys.executable, os.path.join(HERE, 'digest', 'rows.py'), HEADER]).stdout)
         archive = os.path.join(ROOT, 'target', 'staticlib', 'libspargolutta.a')
         wanted = run([build(folder, 'good', archive), *WORK]).stdout
-        good = run([sys.executable, os.path.join(HERE, 'mir2c'), HEADER, os.path.join(ROOT, 'target', 'rlib')]).stdout
+        good = run([sys.executable, os.path.join(HERE, 'mir2c'), HEADER, *MIR]).stdout
         for rule, what, why_not, *mutant in MUTANTS:
             if sys.argv[1:] and rule[0] not in sys.argv[1:]:
                 continue

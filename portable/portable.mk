@@ -6,16 +6,19 @@ C_FILE := portable/spargolutta.c
 C_LIB := target/portable
 CFLAGS ?= -O3
 
-# Anew from the MIR of the proved crates, which the archive's build leaves in target/rlib.
+# The MIR of the proved crates, which the archive's build leaves in target/rlib, and of the toolchain's own library.
+MIR = target/rlib $$(dirname "$$(dirname "$$(readlink -f "$$(command -v rt)")")")/on/x86_64/rlib
+
+# Anew from the MIR.
 c: $(ARCHIVE)
 	@mkdir -p $(C_LIB)
-	@python3 portable/mir2c include/spargolutta.h target/rlib > $(C_LIB)/spargolutta.c
+	@python3 portable/mir2c include/spargolutta.h $(MIR) > $(C_LIB)/spargolutta.c
 	@cp $(C_LIB)/spargolutta.c $(C_FILE)
 
 # The kept file is what `make c` makes.
 c-check: $(ARCHIVE)
 	@mkdir -p $(C_LIB)
-	@python3 portable/mir2c include/spargolutta.h target/rlib > $(C_LIB)/spargolutta.c
+	@python3 portable/mir2c include/spargolutta.h $(MIR) > $(C_LIB)/spargolutta.c
 	@cmp $(C_LIB)/spargolutta.c $(C_FILE) \
 	|| { echo "$(C_FILE) is not what 'make c' makes of the proved crates." >&2; exit 1; }
 

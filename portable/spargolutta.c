@@ -65,15 +65,25 @@ static inline uint32_t count_ones(uint64_t bits)
     return (uint32_t)(bits * UINT64_C(0x0101010101010101) >> 56);
 }
 
+/* The bits of a number, by a union, which C99 lets be read by another member. */
+static inline uint64_t float_bits(double number)
+{
+    union { double number; uint64_t bits; } both;
+    both.number = number;
+    return both.bits;
+}
+
 typedef struct { uint16_t *f0; uint64_t f1; } slice_uint16_t;
 typedef struct { uint64_t f0; uint64_t f1; uint64_t f2; uint64_t f3; uint64_t f4; uint64_t f5; } type_cones__table__Cone;
 typedef struct { uint64_t f0; uint64_t f1; } type_cones__table__Size;
 typedef struct { uint32_t e[38]; } array_uint32_t_38;
 typedef struct { uint64_t f0; uint64_t f1; uint64_t f2; } type_sphere__point__Point;
 typedef struct { uint8_t *f0; uint64_t f1; } slice_uint8_t;
+typedef struct { uint8_t tag; uint64_t s0; uint32_t s1; } type_fields__field__Body;
 typedef struct { uint8_t tag; uint32_t s0; uint64_t s1; } type_answer__Check;
 typedef struct { uint8_t tag; } type_sphere__point__Grid;
-typedef struct { type_answer__Check f0; type_sphere__point__Grid f1; type_sphere__point__Point f2; type_sphere__point__Point f3; uint64_t f4; } type_sheet__open__Opened;
+typedef struct { type_answer__Check f0; uint64_t f1; uint64_t f2; type_sphere__point__Grid f3; bool f4; } type_fields__Parts;
+typedef struct { type_answer__Check f0; type_sphere__point__Grid f1; type_sphere__point__Point f2; type_sphere__point__Point f3; bool f4; uint64_t f5; uint64_t f6; } type_sheet__open__Opened;
 typedef struct { uint32_t *f0; uint64_t f1; } slice_uint32_t;
 typedef struct { double f0; double f1; double f2; } type_sphere__approximate__Vector;
 typedef struct { type_sphere__point__Point f0; type_sphere__approximate__Vector f1; type_sphere__point__Grid f2; } type_sphere__plane__Plane;
@@ -95,6 +105,8 @@ typedef struct { uint8_t e[1]; } array_uint8_t_1;
 typedef struct { type_search__walk__Tally f0; uint32_t f1; } type_search__walk__Searched;
 typedef struct { uint32_t e[768]; } array_uint32_t_768;
 typedef struct { uint32_t e[48]; } array_uint32_t_48;
+typedef struct { uint32_t e[4096]; } array_uint32_t_4096;
+typedef struct { uint32_t e[258]; } array_uint32_t_258;
 typedef struct { uint32_t e[12288]; } array_uint32_t_12288;
 typedef struct { type_sphere__point__Point f0; type_sphere__point__Point f1; } type_azimuths__azimuth__Frame;
 typedef struct { uint64_t f0; uint64_t f1; } type_azimuths__sectors__Sector;
@@ -118,6 +130,9 @@ typedef struct { uint8_t tag; uint64_t s0; uint32_t s1; } type_basin__profile__B
 typedef struct { uint8_t tag; uint64_t s0; uint64_t s1; uint32_t s2; } type_book__step__Step;
 typedef struct { uint64_t f0; uint64_t f1; uint64_t f2; } type_book__sets__Sets;
 typedef struct { uint32_t f0; uint64_t f1; uint32_t f2; type_book__sets__Sets f3; } type_book__sets__Which;
+typedef struct { double f0; double f1; double f2; } type_separation__find__Vector;
+typedef struct { double f0; double f1; } type_separation__find__Slopes;
+typedef struct { type_sphere__point__Point f0; type_sphere__point__Point f1; type_sphere__point__Point f2; type_sphere__point__Point f3; } type_separation__planes__Planes;
 typedef struct { slice_uint8_t f0; uint64_t f1; } type_book__reader__Reader;
 typedef struct { type_answer__Answer f0; uint32_t f1; uint32_t f2; uint64_t f3; uint64_t f4; type_sphere__point__Point f5; uint64_t f6; type_sphere__point__Point f7; type_sphere__point__Grid f8; } type_sheet__read__Sheet;
 typedef struct { uint8_t e[7]; } array_uint8_t_7;
@@ -140,6 +155,8 @@ typedef struct { uint64_t f0; type_positions__grammar__State f1; type_positions_
 typedef struct { uint8_t tag; uint64_t s0; uint32_t s1; } type_geojson__scan__Scanned;
 typedef struct { type_sphere__point__Grid f0; type_sphere__point__Point f1; } type_sphere__point__GridPoint;
 typedef struct { uint32_t e[12291]; } array_uint32_t_12291;
+typedef struct { type_sphere__point__Point f0; type_sphere__point__Point f1; } type_extent__sides__Sides;
+typedef struct { type_answer__Check f0; bool f1; type_answer__Answer f2; bool f3; type_extent__sides__Sides f4; } type_extent__measure__Extent;
 typedef struct { uint64_t e[38]; } array_uint64_t_38;
 typedef struct { uint8_t e[783]; } array_uint8_t_783;
 
@@ -253,9 +270,9 @@ static INLINE bool fields__is_allowed(uint64_t l1, uint64_t l2, uint64_t l3, uin
     return l0;
 }
 
-static INLINE type_answer__Check fields__field_check(slice_uint8_t l1, uint64_t l2, uint8_t l3, uint64_t l4, uint64_t l5, uint64_t l6)
+static INLINE type_fields__field__Body fields__field__field_body(slice_uint8_t l1, uint64_t l2, uint8_t l3, uint64_t l4, uint64_t l5, uint64_t l6)
 {
-    type_answer__Check l0;
+    type_fields__field__Body l0;
     uint64_t l7;
     uint64_t l8;
     uint64_t l9;
@@ -269,14 +286,14 @@ static INLINE type_answer__Check fields__field_check(slice_uint8_t l1, uint64_t 
     l9 = (l8 - l2);
     l10 = (l9 < UINT64_C(3));
     if (l10) {
-        l0 = (type_answer__Check){.tag = 1, .s0 = UINT32_C(20), .s1 = l2};
+        l0 = (type_fields__field__Body){.tag = 1, .s1 = UINT32_C(20), .s0 = l2};
         return l0;
     }
     l11 = ((unsigned char *)(void *)l1.f0 + (size_t)l2);
     l12 = (*(uint8_t *)(void *)l11);
     l10 = (l12 != l3);
     if (l10) {
-        l0 = (type_answer__Check){.tag = 1, .s0 = UINT32_C(21), .s1 = l2};
+        l0 = (type_fields__field__Body){.tag = 1, .s1 = UINT32_C(21), .s0 = l2};
         return l0;
     }
     l8 = (l2 + UINT64_C(1));
@@ -285,7 +302,7 @@ static INLINE type_answer__Check fields__field_check(slice_uint8_t l1, uint64_t 
     l10 = fields__is_allowed(l7, l4, l5, l6);
     l14 = !l10;
     if (l14) {
-        l0 = (type_answer__Check){.tag = 1, .s0 = UINT32_C(22), .s1 = l2};
+        l0 = (type_fields__field__Body){.tag = 1, .s1 = UINT32_C(22), .s0 = l2};
         return l0;
     }
     l8 = l1.f1;
@@ -293,10 +310,45 @@ static INLINE type_answer__Check fields__field_check(slice_uint8_t l1, uint64_t 
     l15 = (l9 - UINT64_C(3));
     l14 = (l15 < l7);
     if (l14) {
-        l0 = (type_answer__Check){.tag = 1, .s0 = UINT32_C(20), .s1 = l2};
+        l0 = (type_fields__field__Body){.tag = 1, .s1 = UINT32_C(20), .s0 = l2};
         return l0;
     }
-    l0 = (type_answer__Check){.tag = 0};
+    l0 = (type_fields__field__Body){.tag = 0, .s0 = l7};
+    return l0;
+}
+
+static INLINE type_answer__Check fields__field__field_check(slice_uint8_t l1, uint64_t l2, uint8_t l3, uint64_t l4)
+{
+    type_answer__Check l0;
+    uint32_t l5;
+    uint64_t l6;
+    type_fields__field__Body l7;
+    type_answer__Check l8;
+    l7 = fields__field__field_body(l1, l2, l3, l4, l4, UINT64_C(1));
+    switch (l7.tag) {
+    case 0: {
+        l8 = (type_answer__Check){.tag = 0};
+        break;
+    }
+    case 1: default: {
+        l5 = l7.s1;
+        l6 = l7.s0;
+        l8 = (type_answer__Check){.tag = 1, .s0 = l5, .s1 = l6};
+        break;
+    }
+    }
+    l0 = l8;
+    return l0;
+}
+
+static INLINE type_fields__Parts fields__refused(uint32_t l1, uint64_t l2)
+{
+    type_fields__Parts l0;
+    type_answer__Check l3;
+    type_sphere__point__Grid l4;
+    l3 = (type_answer__Check){.tag = 1, .s0 = l1, .s1 = l2};
+    l4 = (type_sphere__point__Grid){.tag = 0};
+    l0 = (type_fields__Parts){.f0 = l3, .f1 = UINT64_C(0), .f2 = UINT64_C(0), .f3 = l4, .f4 = false};
     return l0;
 }
 
@@ -334,7 +386,7 @@ static INLINE type_answer__Check fields__charset_check(slice_uint8_t l1)
     uint32_t l6;
     uint64_t l7;
     bool l8;
-    l4 = fields__field_check(l1, UINT64_C(7), 2, UINT64_C(1), UINT64_C(1), UINT64_C(1));
+    l4 = fields__field__field_check(l1, UINT64_C(7), 2, UINT64_C(1));
     switch (l4.tag) {
     case 1: {
         l2 = l4.s0;
@@ -356,21 +408,6 @@ static INLINE type_answer__Check fields__charset_check(slice_uint8_t l1)
         return l0;
     }
     l0 = (type_answer__Check){.tag = 0};
-    return l0;
-}
-
-static INLINE uint64_t fields__known_start(slice_uint8_t l1)
-{
-    uint64_t l0;
-    uint64_t l2;
-    uint32_t l3;
-    uint64_t l4;
-    uint64_t l5;
-    l2 = (UINT64_C(11) + UINT64_C(3));
-    l4 = (UINT64_C(11) + UINT64_C(1));
-    l3 = big_endian__read__short_at(l1, l4);
-    l5 = (uint64_t)l3;
-    l0 = (l2 + l5);
     return l0;
 }
 
@@ -415,120 +452,13 @@ static INLINE uint8_t fields__tag(type_sphere__point__Grid l1)
     return l0;
 }
 
-static INLINE type_answer__Check fields__five_fields(slice_uint8_t l1)
-{
-    type_answer__Check l0;
-    uint32_t l2;
-    uint64_t l3;
-    uint32_t l4;
-    uint64_t l5;
-    uint32_t l6;
-    uint64_t l7;
-    uint64_t l8;
-    uint32_t l9;
-    uint64_t l10;
-    uint64_t l11;
-    type_answer__Check l12;
-    type_answer__Check l13;
-    type_answer__Check l14;
-    type_answer__Check l15;
-    uint8_t l16;
-    type_sphere__point__Grid l17;
-    l12 = fields__field_check(l1, UINT64_C(0), 1, UINT64_C(4), UINT64_C(4), UINT64_C(1));
-    switch (l12.tag) {
-    case 1: {
-        l2 = l12.s0;
-        l3 = l12.s1;
-        l0 = (type_answer__Check){.tag = 1, .s0 = l2, .s1 = l3};
-        return l0;
-        break;
-    }
-    case 0: default: {
-        break;
-    }
-    }
-    l13 = fields__charset_check(l1);
-    switch (l13.tag) {
-    case 1: {
-        l4 = l13.s0;
-        l5 = l13.s1;
-        l0 = (type_answer__Check){.tag = 1, .s0 = l4, .s1 = l5};
-        return l0;
-        break;
-    }
-    case 0: default: {
-        break;
-    }
-    }
-    l14 = fields__field_check(l1, UINT64_C(11), 3, UINT64_C(1), UINT64_C(120), UINT64_C(1));
-    switch (l14.tag) {
-    case 1: {
-        l6 = l14.s0;
-        l7 = l14.s1;
-        l0 = (type_answer__Check){.tag = 1, .s0 = l6, .s1 = l7};
-        return l0;
-        break;
-    }
-    case 0: default: {
-        break;
-    }
-    }
-    l8 = fields__known_start(l1);
-    l15 = fields__field_check(l1, l8, 4, UINT64_C(12), UINT64_C(12), UINT64_C(1));
-    switch (l15.tag) {
-    case 1: {
-        l9 = l15.s0;
-        l10 = l15.s1;
-        l0 = (type_answer__Check){.tag = 1, .s0 = l9, .s1 = l10};
-        return l0;
-        break;
-    }
-    case 0: default: {
-        break;
-    }
-    }
-    l11 = (l8 + UINT64_C(15));
-    l17 = fields__grid_at(l1, l11);
-    l16 = fields__tag(l17);
-    l0 = fields__field_check(l1, l11, l16, UINT64_C(36), UINT64_C(49152), UINT64_C(12));
-    return l0;
-}
-
-static INLINE uint64_t fields__vertices_start(slice_uint8_t l1)
-{
-    uint64_t l0;
-    uint64_t l2;
-    l2 = fields__known_start(l1);
-    l0 = (l2 + UINT64_C(15));
-    return l0;
-}
-
-static INLINE uint64_t fields__second_start(slice_uint8_t l1)
-{
-    uint64_t l0;
-    uint64_t l2;
-    uint64_t l3;
-    uint32_t l4;
-    uint64_t l5;
-    uint64_t l6;
-    l2 = fields__vertices_start(l1);
-    l3 = (l2 + UINT64_C(3));
-    l5 = (l2 + UINT64_C(1));
-    l4 = big_endian__read__short_at(l1, l5);
-    l6 = (uint64_t)l4;
-    l0 = (l3 + l6);
-    return l0;
-}
-
-static INLINE bool fields__has_second(slice_uint8_t l1)
+static INLINE bool fields__starts_second(slice_uint8_t l1, uint64_t l2)
 {
     bool l0;
-    uint64_t l2;
     uint64_t l3;
     bool l4;
     unsigned char *l5;
     uint8_t l6;
-    l2 = fields__second_start(l1);
     l3 = l1.f1;
     l4 = (l2 < l3);
     if (l4) {
@@ -541,33 +471,34 @@ static INLINE bool fields__has_second(slice_uint8_t l1)
     return l0;
 }
 
-static INLINE type_answer__Check fields__second_field(slice_uint8_t l1)
+static INLINE type_fields__Parts fields__from_known(slice_uint8_t l1, uint64_t l2)
 {
-    type_answer__Check l0;
-    bool l2;
+    type_fields__Parts l0;
     uint64_t l3;
-    l2 = fields__has_second(l1);
-    if (l2) {
-        l3 = fields__second_start(l1);
-        l0 = fields__field_check(l1, l3, 6, UINT64_C(12), UINT64_C(12), UINT64_C(1));
-        return l0;
-    }
-    l0 = (type_answer__Check){.tag = 0};
-    return l0;
-}
-
-static type_answer__Check fields__sheet_fields(slice_uint8_t l1)
-{
-    type_answer__Check l0;
-    uint32_t l2;
-    uint64_t l3;
-    type_answer__Check l4;
-    l4 = fields__five_fields(l1);
-    switch (l4.tag) {
+    uint32_t l4;
+    uint64_t l5;
+    uint64_t l6;
+    type_sphere__point__Grid l7;
+    uint64_t l8;
+    uint32_t l9;
+    uint64_t l10;
+    uint64_t l11;
+    type_answer__Check l12;
+    type_fields__field__Body l13;
+    uint8_t l14;
+    type_fields__Parts l15;
+    type_answer__Check l16;
+    bool l17;
+    uint64_t l18;
+    uint64_t l19;
+    l11 = (UINT64_C(11) + UINT64_C(3));
+    l3 = (l11 + l2);
+    l12 = fields__field__field_check(l1, l3, 4, UINT64_C(12));
+    switch (l12.tag) {
     case 1: {
-        l2 = l4.s0;
-        l3 = l4.s1;
-        l0 = (type_answer__Check){.tag = 1, .s0 = l2, .s1 = l3};
+        l4 = l12.s0;
+        l5 = l12.s1;
+        l0 = fields__refused(l4, l5);
         return l0;
         break;
     }
@@ -575,17 +506,158 @@ static type_answer__Check fields__sheet_fields(slice_uint8_t l1)
         break;
     }
     }
-    l0 = fields__second_field(l1);
+    l6 = (l3 + UINT64_C(15));
+    l7 = fields__grid_at(l1, l6);
+    l14 = fields__tag(l7);
+    l13 = fields__field__field_body(l1, l6, l14, UINT64_C(36), UINT64_C(49152), UINT64_C(12));
+    switch (l13.tag) {
+    case 0: {
+        l8 = l13.s0;
+        l16 = (type_answer__Check){.tag = 0};
+        l18 = (l6 + UINT64_C(3));
+        l19 = (l18 + l8);
+        l17 = fields__starts_second(l1, l19);
+        l15 = (type_fields__Parts){.f0 = l16, .f1 = l2, .f2 = l8, .f3 = l7, .f4 = l17};
+        break;
+    }
+    case 1: default: {
+        l9 = l13.s1;
+        l10 = l13.s0;
+        l15 = fields__refused(l9, l10);
+        break;
+    }
+    }
+    l0 = l15;
     return l0;
 }
 
-static INLINE uint64_t fields__sheet_end(slice_uint8_t l1)
+static type_fields__Parts fields__five_fields(slice_uint8_t l1)
+{
+    type_fields__Parts l0;
+    uint32_t l2;
+    uint64_t l3;
+    uint32_t l4;
+    uint64_t l5;
+    uint64_t l6;
+    uint32_t l7;
+    uint64_t l8;
+    type_answer__Check l9;
+    type_answer__Check l10;
+    type_fields__field__Body l11;
+    type_fields__Parts l12;
+    l9 = fields__field__field_check(l1, UINT64_C(0), 1, UINT64_C(4));
+    switch (l9.tag) {
+    case 1: {
+        l2 = l9.s0;
+        l3 = l9.s1;
+        l0 = fields__refused(l2, l3);
+        return l0;
+        break;
+    }
+    case 0: default: {
+        break;
+    }
+    }
+    l10 = fields__charset_check(l1);
+    switch (l10.tag) {
+    case 1: {
+        l4 = l10.s0;
+        l5 = l10.s1;
+        l0 = fields__refused(l4, l5);
+        return l0;
+        break;
+    }
+    case 0: default: {
+        break;
+    }
+    }
+    l11 = fields__field__field_body(l1, UINT64_C(11), 3, UINT64_C(1), UINT64_C(120), UINT64_C(1));
+    switch (l11.tag) {
+    case 0: {
+        l6 = l11.s0;
+        l12 = fields__from_known(l1, l6);
+        break;
+    }
+    case 1: default: {
+        l7 = l11.s1;
+        l8 = l11.s0;
+        l12 = fields__refused(l7, l8);
+        break;
+    }
+    }
+    l0 = l12;
+    return l0;
+}
+
+static INLINE uint64_t fields__second_start(type_fields__Parts l1)
+{
+    uint64_t l0;
+    uint64_t l2;
+    l2 = (l1.f1 + UINT64_C(32));
+    l0 = (l2 + l1.f2);
+    return l0;
+}
+
+static INLINE type_answer__Check fields__second_field(slice_uint8_t l1, type_fields__Parts l2)
+{
+    type_answer__Check l0;
+    bool l3;
+    uint64_t l4;
+    l3 = l2.f4;
+    if (l3) {
+        l4 = fields__second_start(l2);
+        l0 = fields__field__field_check(l1, l4, 6, UINT64_C(12));
+        return l0;
+    }
+    l0 = (type_answer__Check){.tag = 0};
+    return l0;
+}
+
+static INLINE type_fields__Parts fields__sheet_fields(slice_uint8_t l1)
+{
+    type_fields__Parts l0;
+    type_fields__Parts l2;
+    type_answer__Check l3;
+    uint32_t l4;
+    uint64_t l5;
+    type_answer__Check l6;
+    type_fields__Parts l7;
+    l2 = fields__five_fields(l1);
+    l3 = l2.f0;
+    switch (l3.tag) {
+    case 0: {
+        break;
+    }
+    case 1: default: {
+        l0 = l2;
+        return l0;
+        break;
+    }
+    }
+    l6 = fields__second_field(l1, l2);
+    switch (l6.tag) {
+    case 0: {
+        l7 = l2;
+        break;
+    }
+    case 1: default: {
+        l4 = l6.s0;
+        l5 = l6.s1;
+        l7 = fields__refused(l4, l5);
+        break;
+    }
+    }
+    l0 = l7;
+    return l0;
+}
+
+static INLINE uint64_t fields__sheet_end(type_fields__Parts l1)
 {
     uint64_t l0;
     uint64_t l2;
     bool l3;
     l2 = fields__second_start(l1);
-    l3 = fields__has_second(l1);
+    l3 = l1.f4;
     if (l3) {
         l0 = (l2 + UINT64_C(15));
         return l0;
@@ -594,36 +666,34 @@ static INLINE uint64_t fields__sheet_end(slice_uint8_t l1)
     return l0;
 }
 
-static INLINE type_answer__Check fields__fields_check(slice_uint8_t l1)
+static INLINE type_fields__Parts fields__fields_check(slice_uint8_t l1)
 {
-    type_answer__Check l0;
-    uint32_t l2;
-    uint64_t l3;
+    type_fields__Parts l0;
+    type_fields__Parts l2;
+    type_answer__Check l3;
     uint64_t l4;
-    type_answer__Check l5;
-    uint64_t l6;
-    bool l7;
-    l5 = fields__sheet_fields(l1);
-    switch (l5.tag) {
-    case 1: {
-        l2 = l5.s0;
-        l3 = l5.s1;
-        l0 = (type_answer__Check){.tag = 1, .s0 = l2, .s1 = l3};
+    uint64_t l5;
+    bool l6;
+    l2 = fields__sheet_fields(l1);
+    l3 = l2.f0;
+    switch (l3.tag) {
+    case 0: {
+        break;
+    }
+    case 1: default: {
+        l0 = l2;
         return l0;
         break;
     }
-    case 0: default: {
-        break;
     }
-    }
-    l4 = fields__sheet_end(l1);
-    l6 = l1.f1;
-    l7 = (l4 < l6);
-    if (l7) {
-        l0 = (type_answer__Check){.tag = 1, .s0 = UINT32_C(24), .s1 = l4};
+    l4 = fields__sheet_end(l2);
+    l5 = l1.f1;
+    l6 = (l4 < l5);
+    if (l6) {
+        l0 = fields__refused(UINT32_C(24), l4);
         return l0;
     }
-    l0 = (type_answer__Check){.tag = 0};
+    l0 = l2;
     return l0;
 }
 
@@ -638,16 +708,7 @@ static INLINE type_sheet__open__Opened sheet__open__refused(uint32_t l1, uint64_
     l4 = (type_sphere__point__Grid){.tag = 0};
     l5 = (type_sphere__point__Point){.f0 = UINT64_C(0), .f1 = UINT64_C(0), .f2 = UINT64_C(0)};
     l6 = (type_sphere__point__Point){.f0 = UINT64_C(0), .f1 = UINT64_C(0), .f2 = UINT64_C(0)};
-    l0 = (type_sheet__open__Opened){.f0 = l3, .f1 = l4, .f2 = l5, .f3 = l6, .f4 = UINT64_C(0)};
-    return l0;
-}
-
-static INLINE type_sphere__point__Grid fields__grid(slice_uint8_t l1)
-{
-    type_sphere__point__Grid l0;
-    uint64_t l2;
-    l2 = fields__vertices_start(l1);
-    l0 = fields__grid_at(l1, l2);
+    l0 = (type_sheet__open__Opened){.f0 = l3, .f1 = l4, .f2 = l5, .f3 = l6, .f4 = false, .f5 = UINT64_C(0), .f6 = UINT64_C(0)};
     return l0;
 }
 
@@ -746,63 +807,48 @@ static INLINE type_sphere__point__Point big_endian__read__point_at(slice_uint8_t
     return l0;
 }
 
-static INLINE type_sphere__point__Point sheet__open__known_point(slice_uint8_t l1)
+static INLINE type_sphere__point__Point sheet__open__known_point(slice_uint8_t l1, uint64_t l2)
 {
     type_sphere__point__Point l0;
-    uint64_t l2;
     uint64_t l3;
-    l2 = fields__known_start(l1);
-    l3 = (l2 + UINT64_C(3));
-    l0 = big_endian__read__point_at(l1, l3);
+    uint64_t l4;
+    l3 = (UINT64_C(11) + UINT64_C(6));
+    l4 = (l3 + l2);
+    l0 = big_endian__read__point_at(l1, l4);
     return l0;
 }
 
-static INLINE type_sphere__point__Point sheet__open__second_point(slice_uint8_t l1)
+static INLINE type_sphere__point__Point sheet__open__second_point(slice_uint8_t l1, type_fields__Parts l2)
 {
     type_sphere__point__Point l0;
-    bool l2;
-    uint64_t l3;
+    bool l3;
     uint64_t l4;
-    l2 = fields__has_second(l1);
-    if (l2) {
-        l3 = fields__second_start(l1);
-        l4 = (l3 + UINT64_C(3));
-        l0 = big_endian__read__point_at(l1, l4);
+    uint64_t l5;
+    l3 = l2.f4;
+    if (l3) {
+        l4 = fields__second_start(l2);
+        l5 = (l4 + UINT64_C(3));
+        l0 = big_endian__read__point_at(l1, l5);
         return l0;
     }
     l0 = (type_sphere__point__Point){.f0 = UINT64_C(0), .f1 = UINT64_C(0), .f2 = UINT64_C(0)};
     return l0;
 }
 
-static INLINE uint64_t sheet__open__vertex_count(slice_uint8_t l1)
-{
-    uint64_t l0;
-    uint32_t l2;
-    uint64_t l3;
-    uint64_t l4;
-    uint64_t l5;
-    l3 = fields__vertices_start(l1);
-    l4 = (l3 + UINT64_C(1));
-    l2 = big_endian__read__short_at(l1, l4);
-    l5 = (uint64_t)l2;
-    l0 = (l5 / UINT64_C(12));
-    return l0;
-}
-
-static type_sheet__open__Opened sheet__open__points(slice_uint8_t l1)
+static INLINE type_sheet__open__Opened sheet__open__points(slice_uint8_t l1, type_fields__Parts l2)
 {
     type_sheet__open__Opened l0;
-    type_answer__Check l2;
     type_sphere__point__Grid l3;
-    type_sphere__point__Point l4;
+    type_answer__Check l4;
     type_sphere__point__Point l5;
-    uint64_t l6;
-    l2 = (type_answer__Check){.tag = 0};
-    l3 = fields__grid(l1);
-    l4 = sheet__open__known_point(l1);
-    l5 = sheet__open__second_point(l1);
-    l6 = sheet__open__vertex_count(l1);
-    l0 = (type_sheet__open__Opened){.f0 = l2, .f1 = l3, .f2 = l4, .f3 = l5, .f4 = l6};
+    type_sphere__point__Point l6;
+    uint64_t l7;
+    l3 = l2.f3;
+    l4 = (type_answer__Check){.tag = 0};
+    l5 = sheet__open__known_point(l1, l2.f1);
+    l6 = sheet__open__second_point(l1, l2);
+    l7 = (l2.f2 / UINT64_C(12));
+    l0 = (type_sheet__open__Opened){.f0 = l4, .f1 = l3, .f2 = l5, .f3 = l6, .f4 = l2.f4, .f5 = l7, .f6 = l2.f1};
     return l0;
 }
 
@@ -844,76 +890,86 @@ static INLINE void big_endian__read__decode_four(slice_uint8_t l1, uint64_t l2, 
     return;
 }
 
-static void big_endian__read__decode(slice_uint8_t l1, uint64_t l2, uint64_t l3, slice_uint32_t l4)
+static void big_endian__read__decode_eights(slice_uint8_t l1, uint64_t l2, uint64_t l3, slice_uint32_t l4)
 {
     uint64_t l5;
-    uint64_t l6;
-    uint64_t l7;
-    bool l8;
-    uint64_t l10;
-    uint32_t *l11;
-    slice_uint32_t l12;
-    uint64_t l13;
-    uint32_t *l14;
-    slice_uint32_t l15;
-    bool l16;
-    uint32_t l17;
-    uint64_t l18;
-    uint64_t l19;
-    uint64_t l20;
-    unsigned char *l21;
-    l5 = (l3 / UINT64_C(8));
-    l6 = UINT64_C(0);
+    bool l6;
+    uint64_t l8;
+    uint32_t *l9;
+    slice_uint32_t l10;
+    uint64_t l11;
+    uint32_t *l12;
+    slice_uint32_t l13;
+    l5 = UINT64_C(0);
     for (;;) {
-        l8 = (l6 < l5);
-        if (l8) {
+        l6 = (l5 < l3);
+        if (l6) {
         } else {
             goto exit0;
         }
-        l10 = (l6 << 3);
-        l11 = (uint32_t *)(void *)&(*l4.f0);
-        l12 = (slice_uint32_t){.f0 = l11, .f1 = l4.f1};
-        big_endian__read__decode_four(l1, l2, l10, l12);
-        l10 = (l6 << 3);
-        l13 = (l10 + UINT64_C(4));
-        l14 = (uint32_t *)(void *)&(*l4.f0);
-        l15 = (slice_uint32_t){.f0 = l14, .f1 = l4.f1};
-        big_endian__read__decode_four(l1, l2, l13, l15);
-        l6 = (l6 + UINT64_C(1));
+        l8 = (l5 << 3);
+        l9 = (uint32_t *)(void *)&(*l4.f0);
+        l10 = (slice_uint32_t){.f0 = l9, .f1 = l4.f1};
+        big_endian__read__decode_four(l1, l2, l8, l10);
+        l8 = (l5 << 3);
+        l11 = (l8 + UINT64_C(4));
+        l12 = (uint32_t *)(void *)&(*l4.f0);
+        l13 = (slice_uint32_t){.f0 = l12, .f1 = l4.f1};
+        big_endian__read__decode_four(l1, l2, l11, l13);
+        l5 = (l5 + UINT64_C(1));
     }
 exit0:;
-    l7 = (l5 << 3);
-    for (;;) {
-        l16 = (l7 < l3);
-        if (l16) {
-        } else {
-            goto exit1;
-        }
-        l18 = (l7 << 2);
-        l19 = (l2 + l18);
-        l17 = big_endian__read__int_at(l1, l19);
-        l20 = (l7 << 2);
-        l21 = ((unsigned char *)(void *)l4.f0 + (size_t)l20);
-        (*(uint32_t *)(void *)l21) = l17;
-        l7 = (l7 + UINT64_C(1));
-    }
-exit1:;
     return;
 }
 
-static INLINE void sheet__open__decode_vertices(slice_uint8_t l1, uint64_t l2, slice_uint32_t l3)
+static INLINE void big_endian__read__decode(slice_uint8_t l1, uint64_t l2, uint64_t l3, slice_uint32_t l4)
 {
     uint64_t l5;
     uint64_t l6;
-    uint64_t l7;
     uint32_t *l8;
     slice_uint32_t l9;
-    l5 = fields__vertices_start(l1);
-    l6 = (l5 + UINT64_C(3));
-    l7 = (l2 * UINT64_C(3));
-    l8 = (uint32_t *)(void *)&(*l3.f0);
-    l9 = (slice_uint32_t){.f0 = l8, .f1 = l3.f1};
-    big_endian__read__decode(l1, l6, l7, l9);
+    bool l10;
+    uint32_t l11;
+    uint64_t l12;
+    uint64_t l13;
+    uint64_t l14;
+    unsigned char *l15;
+    l5 = (l3 / UINT64_C(8));
+    l8 = (uint32_t *)(void *)&(*l4.f0);
+    l9 = (slice_uint32_t){.f0 = l8, .f1 = l4.f1};
+    big_endian__read__decode_eights(l1, l2, l5, l9);
+    l6 = (l5 << 3);
+    for (;;) {
+        l10 = (l6 < l3);
+        if (l10) {
+        } else {
+            goto exit0;
+        }
+        l12 = (l6 << 2);
+        l13 = (l2 + l12);
+        l11 = big_endian__read__int_at(l1, l13);
+        l14 = (l6 << 2);
+        l15 = ((unsigned char *)(void *)l4.f0 + (size_t)l14);
+        (*(uint32_t *)(void *)l15) = l11;
+        l6 = (l6 + UINT64_C(1));
+    }
+exit0:;
+    return;
+}
+
+static INLINE void sheet__open__decode_vertices(slice_uint8_t l1, uint64_t l2, uint64_t l3, slice_uint32_t l4)
+{
+    uint64_t l6;
+    uint64_t l7;
+    uint64_t l8;
+    uint32_t *l9;
+    slice_uint32_t l10;
+    l6 = (UINT64_C(11) + UINT64_C(21));
+    l7 = (l6 + l2);
+    l8 = (l3 * UINT64_C(3));
+    l9 = (uint32_t *)(void *)&(*l4.f0);
+    l10 = (slice_uint32_t){.f0 = l9, .f1 = l4.f1};
+    big_endian__read__decode(l1, l7, l8, l10);
     return;
 }
 
@@ -995,7 +1051,7 @@ static INLINE bool sphere__point__is_far(type_sphere__point__Grid l1, uint64_t l
     return l0;
 }
 
-static INLINE uint32_t polygon__checks__far_at(type_sphere__point__Grid l1, slice_uint32_t l2, uint64_t l3)
+static INLINE uint32_t polygon__quick__far_at(type_sphere__point__Grid l1, slice_uint32_t l2, uint64_t l3)
 {
     uint32_t l0;
     bool l4;
@@ -1010,7 +1066,7 @@ static INLINE uint32_t polygon__checks__far_at(type_sphere__point__Grid l1, slic
     return l0;
 }
 
-static INLINE uint32_t polygon__checks__count_far_either(type_sphere__point__Grid l1, slice_uint32_t l2)
+static INLINE uint32_t polygon__quick__count_far_either(type_sphere__point__Grid l1, slice_uint32_t l2)
 {
     uint32_t l0;
     uint32_t l3;
@@ -1027,7 +1083,7 @@ static INLINE uint32_t polygon__checks__count_far_either(type_sphere__point__Gri
         } else {
             goto exit0;
         }
-        l7 = polygon__checks__far_at(l1, l2, l4);
+        l7 = polygon__quick__far_at(l1, l2, l4);
         l3 = (l3 + l7);
         l4 = (l4 + UINT64_C(1));
     }
@@ -1036,12 +1092,12 @@ exit0:;
     return l0;
 }
 
-static INLINE uint32_t polygon__checks__count_far(type_sphere__point__Grid l1, slice_uint32_t l2)
+static INLINE uint32_t polygon__quick__count_far(type_sphere__point__Grid l1, slice_uint32_t l2)
 {
-    return l1.tag == 0 ? polygon__checks__count_far_either((type_sphere__point__Grid){.tag = 0}, l2) : polygon__checks__count_far_either((type_sphere__point__Grid){.tag = 1}, l2);
+    return l1.tag == 0 ? polygon__quick__count_far_either((type_sphere__point__Grid){.tag = 0}, l2) : polygon__quick__count_far_either((type_sphere__point__Grid){.tag = 1}, l2);
 }
 
-static INLINE bool polygon__checks__is_near(type_sphere__point__Grid l1, slice_uint32_t l2)
+static INLINE bool polygon__quick__is_near(type_sphere__point__Grid l1, slice_uint32_t l2)
 {
     bool l0;
     bool l3;
@@ -1052,13 +1108,13 @@ static INLINE bool polygon__checks__is_near(type_sphere__point__Grid l1, slice_u
     switch (l1.tag) {
     case 0: {
         l5 = (type_sphere__point__Grid){.tag = 0};
-        l4 = polygon__checks__count_far(l5, l2);
+        l4 = polygon__quick__count_far(l5, l2);
         l3 = (l4 == UINT32_C(0));
         break;
     }
     case 1: default: {
         l7 = (type_sphere__point__Grid){.tag = 1};
-        l6 = polygon__checks__count_far(l7, l2);
+        l6 = polygon__quick__count_far(l7, l2);
         l3 = (l6 == UINT32_C(0));
         break;
     }
@@ -1166,6 +1222,34 @@ static INLINE type_sphere__point__Point polygon__vertices__vertex_at(slice_uint3
     l7 = (l3 + UINT64_C(2));
     l6 = polygon__vertices__number_at(l1, l7);
     l0 = (type_sphere__point__Point){.f0 = l4, .f1 = l5, .f2 = l6};
+    return l0;
+}
+
+static INLINE uint64_t polygon__vertices__next_of(uint64_t l1, uint64_t l2)
+{
+    uint64_t l0;
+    uint64_t l3;
+    bool l4;
+    l3 = (l2 + UINT64_C(1));
+    l4 = (l3 < l1);
+    if (l4) {
+        l0 = l3;
+        return l0;
+    }
+    l0 = UINT64_C(0);
+    return l0;
+}
+
+static INLINE type_sphere__point__Point polygon__vertices__end_of(slice_uint32_t l1, uint64_t l2)
+{
+    type_sphere__point__Point l0;
+    uint64_t l3;
+    uint64_t l4;
+    uint64_t l5;
+    l4 = l1.f1;
+    l5 = (l4 / UINT64_C(3));
+    l3 = polygon__vertices__next_of(l5, l2);
+    l0 = polygon__vertices__vertex_at(l1, l3);
     return l0;
 }
 
@@ -1459,43 +1543,6 @@ static INLINE uint64_t sphere__plane__side_of(type_sphere__plane__Plane l1, type
     return l0;
 }
 
-static INLINE bool polygon__checks__is_level(type_sphere__plane__Plane l1, type_sphere__point__Point l2)
-{
-    bool l0;
-    uint64_t l3;
-    l3 = sphere__plane__side_of(l1, l2);
-    l0 = (l3 == UINT64_C(0));
-    return l0;
-}
-
-static INLINE uint64_t polygon__vertices__next_of(uint64_t l1, uint64_t l2)
-{
-    uint64_t l0;
-    uint64_t l3;
-    bool l4;
-    l3 = (l2 + UINT64_C(1));
-    l4 = (l3 < l1);
-    if (l4) {
-        l0 = l3;
-        return l0;
-    }
-    l0 = UINT64_C(0);
-    return l0;
-}
-
-static INLINE type_sphere__point__Point polygon__vertices__end_of(slice_uint32_t l1, uint64_t l2)
-{
-    type_sphere__point__Point l0;
-    uint64_t l3;
-    uint64_t l4;
-    uint64_t l5;
-    l4 = l1.f1;
-    l5 = (l4 / UINT64_C(3));
-    l3 = polygon__vertices__next_of(l5, l2);
-    l0 = polygon__vertices__vertex_at(l1, l3);
-    return l0;
-}
-
 static INLINE uint64_t sphere__plane__turn(type_sphere__point__Grid l1, type_sphere__point__Point l2, type_sphere__point__Point l3, type_sphere__point__Point l4)
 {
     uint64_t l0;
@@ -1514,7 +1561,27 @@ static INLINE bool sphere__edge__on_circle(type_sphere__point__Grid l1, type_sph
     return l0;
 }
 
-static INLINE bool polygon__checks__off_each_either(type_sphere__point__Grid l1, slice_uint32_t l2, type_sphere__point__Point l3)
+static INLINE bool polygon__quick__is_on_circle(type_sphere__point__Grid l1, slice_uint32_t l2, uint64_t l3, type_sphere__point__Point l4)
+{
+    bool l0;
+    type_sphere__point__Point l5;
+    type_sphere__point__Point l6;
+    l5 = polygon__vertices__vertex_at(l2, l3);
+    l6 = polygon__vertices__end_of(l2, l3);
+    l0 = sphere__edge__on_circle(l1, l5, l6, l4);
+    return l0;
+}
+
+static INLINE bool polygon__quick__is_level(type_sphere__plane__Plane l1, type_sphere__point__Point l2)
+{
+    bool l0;
+    uint64_t l3;
+    l3 = sphere__plane__side_of(l1, l2);
+    l0 = (l3 == UINT64_C(0));
+    return l0;
+}
+
+static INLINE bool polygon__quick__off_pairs_either(type_sphere__point__Grid l1, slice_uint32_t l2, type_sphere__point__Point l3)
 {
     bool l0;
     uint64_t l4;
@@ -1523,38 +1590,34 @@ static INLINE bool polygon__checks__off_each_either(type_sphere__point__Grid l1,
     type_sphere__point__Point l7;
     type_sphere__plane__Plane l8;
     type_sphere__point__Point l9;
-    type_sphere__point__Point l10;
-    type_sphere__point__Point l11;
-    uint64_t l12;
-    uint64_t l13;
+    uint64_t l10;
+    uint64_t l11;
+    bool l12;
+    bool l13;
     bool l14;
-    bool l15;
-    bool l16;
-    bool l17;
-    bool l18;
-    l12 = l2.f1;
-    l4 = (l12 / UINT64_C(3));
+    l10 = l2.f1;
+    l4 = (l10 / UINT64_C(3));
     l5 = polygon__vertices__vertex_at(l2, UINT64_C(0));
     l6 = UINT64_C(0);
     for (;;) {
-        l13 = (l6 + UINT64_C(2));
-        l14 = (l13 < l4);
-        if (l14) {
+        l11 = (l6 + UINT64_C(2));
+        l12 = (l11 < l4);
+        if (l12) {
         } else {
             goto exit0;
         }
-        l13 = (l6 + UINT64_C(1));
-        l7 = polygon__vertices__vertex_at(l2, l13);
+        l11 = (l6 + UINT64_C(1));
+        l7 = polygon__vertices__vertex_at(l2, l11);
         l8 = sphere__plane__plane_through(l1, l7, l3);
-        l15 = polygon__checks__is_level(l8, l5);
-        if (l15) {
+        l13 = polygon__quick__is_level(l8, l5);
+        if (l13) {
             l0 = false;
             return l0;
         }
-        l13 = (l6 + UINT64_C(2));
-        l9 = polygon__vertices__vertex_at(l2, l13);
-        l16 = polygon__checks__is_level(l8, l9);
-        if (l16) {
+        l11 = (l6 + UINT64_C(2));
+        l9 = polygon__vertices__vertex_at(l2, l11);
+        l14 = polygon__quick__is_level(l8, l9);
+        if (l14) {
             l0 = false;
             return l0;
         }
@@ -1562,50 +1625,52 @@ static INLINE bool polygon__checks__off_each_either(type_sphere__point__Grid l1,
         l6 = (l6 + UINT64_C(2));
     }
 exit0:;
-    for (;;) {
-        l17 = (l6 < l4);
-        if (l17) {
-        } else {
-            goto exit1;
-        }
-        l10 = polygon__vertices__vertex_at(l2, l6);
-        l11 = polygon__vertices__end_of(l2, l6);
-        l18 = sphere__edge__on_circle(l1, l10, l11, l3);
-        if (l18) {
-            l0 = false;
-            return l0;
-        }
-        l6 = (l6 + UINT64_C(1));
-    }
-exit1:;
     l0 = true;
     return l0;
 }
 
-static bool polygon__checks__off_each(type_sphere__point__Grid l1, slice_uint32_t l2, type_sphere__point__Point l3)
+static bool polygon__quick__off_pairs(type_sphere__point__Grid l1, slice_uint32_t l2, type_sphere__point__Point l3)
 {
-    return l1.tag == 0 ? polygon__checks__off_each_either((type_sphere__point__Grid){.tag = 0}, l2, l3) : polygon__checks__off_each_either((type_sphere__point__Grid){.tag = 1}, l2, l3);
+    return l1.tag == 0 ? polygon__quick__off_pairs_either((type_sphere__point__Grid){.tag = 0}, l2, l3) : polygon__quick__off_pairs_either((type_sphere__point__Grid){.tag = 1}, l2, l3);
 }
 
-static INLINE bool polygon__checks__off_circles(type_sphere__point__Grid l1, slice_uint32_t l2, type_sphere__point__Point l3)
+static bool polygon__quick__off_circles(type_sphere__point__Grid l1, slice_uint32_t l2, type_sphere__point__Point l3)
 {
     bool l0;
-    bool l4;
-    type_sphere__point__Grid l5;
-    type_sphere__point__Grid l6;
+    uint64_t l4;
+    uint64_t l5;
+    bool l6;
+    bool l7;
+    bool l8;
+    type_sphere__point__Grid l9;
+    type_sphere__point__Grid l10;
+    l5 = l2.f1;
+    l4 = (l5 / UINT64_C(3));
+    l5 = (l4 - UINT64_C(2));
+    l6 = polygon__quick__is_on_circle(l1, l2, l5, l3);
+    if (l6) {
+        l0 = false;
+        return l0;
+    }
+    l5 = (l4 - UINT64_C(1));
+    l7 = polygon__quick__is_on_circle(l1, l2, l5, l3);
+    if (l7) {
+        l0 = false;
+        return l0;
+    }
     switch (l1.tag) {
     case 0: {
-        l5 = (type_sphere__point__Grid){.tag = 0};
-        l4 = polygon__checks__off_each(l5, l2, l3);
+        l9 = (type_sphere__point__Grid){.tag = 0};
+        l8 = polygon__quick__off_pairs(l9, l2, l3);
         break;
     }
     case 1: default: {
-        l6 = (type_sphere__point__Grid){.tag = 1};
-        l4 = polygon__checks__off_each(l6, l2, l3);
+        l10 = (type_sphere__point__Grid){.tag = 1};
+        l8 = polygon__quick__off_pairs(l10, l2, l3);
         break;
     }
     }
-    l0 = l4;
+    l0 = l8;
     return l0;
 }
 
@@ -1624,7 +1689,7 @@ static INLINE bool polygon__checks__accepts(type_sphere__point__Grid l1, slice_u
         break;
     }
     }
-    l0 = polygon__checks__off_circles(l1, l2, l3);
+    l0 = polygon__quick__off_circles(l1, l2, l3);
     return l0;
 }
 
@@ -1644,7 +1709,7 @@ static INLINE bool polygon__checks__is_accepted(type_sphere__point__Grid l1, sli
         break;
     }
     }
-    l5 = polygon__checks__is_near(l1, l2);
+    l5 = polygon__quick__is_near(l1, l2);
     if (l5) {
         l0 = polygon__checks__accepts(l1, l2, l3);
         return l0;
@@ -2205,59 +2270,61 @@ static INLINE type_answer__Check judging__accept__accept_boxed(type_sphere__poin
 static type_sheet__open__Opened sheet__open__plain_into(slice_uint8_t l1, slice_uint32_t l2, slice_uint32_t l3)
 {
     type_sheet__open__Opened l0;
-    uint32_t l4;
-    uint64_t l5;
-    type_sheet__open__Opened l6;
+    type_fields__Parts l4;
+    type_answer__Check l5;
+    uint32_t l6;
     uint64_t l7;
-    type_sphere__point__Grid l8;
-    uint32_t l9;
-    uint64_t l10;
-    type_answer__Check l11;
-    uint32_t *l13;
-    slice_uint32_t l14;
-    type_answer__Check l15;
-    uint32_t *l16;
-    slice_uint32_t l17;
-    uint32_t *l18;
-    slice_uint32_t l19;
-    type_sheet__open__Opened l20;
-    l11 = fields__fields_check(l1);
-    switch (l11.tag) {
-    case 1: {
-        l4 = l11.s0;
-        l5 = l11.s1;
-        l0 = sheet__open__refused(l4, l5);
-        return l0;
-        break;
-    }
-    case 0: default: {
-        break;
-    }
-    }
-    l6 = sheet__open__points(l1);
-    l13 = (uint32_t *)(void *)&(*l2.f0);
-    l14 = (slice_uint32_t){.f0 = l13, .f1 = l2.f1};
-    sheet__open__decode_vertices(l1, l6.f4, l14);
-    l7 = (l6.f4 * UINT64_C(3));
-    l8 = l6.f1;
-    l16 = (uint32_t *)(void *)&(*l2.f0);
-    l17 = (slice_uint32_t){.f0 = l16, .f1 = l7};
-    l18 = (uint32_t *)(void *)&(*l3.f0);
-    l19 = (slice_uint32_t){.f0 = l18, .f1 = l3.f1};
-    l15 = judging__accept__accept_boxed(l8, l17, l19, l6.f2);
-    switch (l15.tag) {
+    type_sheet__open__Opened l8;
+    uint64_t l9;
+    type_sphere__point__Grid l10;
+    uint32_t l11;
+    uint64_t l12;
+    uint32_t *l14;
+    slice_uint32_t l15;
+    type_answer__Check l16;
+    uint32_t *l17;
+    slice_uint32_t l18;
+    uint32_t *l19;
+    slice_uint32_t l20;
+    type_sheet__open__Opened l21;
+    l4 = fields__fields_check(l1);
+    l5 = l4.f0;
+    switch (l5.tag) {
     case 0: {
-        l20 = l6;
         break;
     }
     case 1: default: {
-        l9 = l15.s0;
-        l10 = l15.s1;
-        l20 = sheet__open__refused(l9, l10);
+        l6 = l5.s0;
+        l7 = l5.s1;
+        l0 = sheet__open__refused(l6, l7);
+        return l0;
         break;
     }
     }
-    l0 = l20;
+    l8 = sheet__open__points(l1, l4);
+    l14 = (uint32_t *)(void *)&(*l2.f0);
+    l15 = (slice_uint32_t){.f0 = l14, .f1 = l2.f1};
+    sheet__open__decode_vertices(l1, l8.f6, l8.f5, l15);
+    l9 = (l8.f5 * UINT64_C(3));
+    l10 = l8.f1;
+    l17 = (uint32_t *)(void *)&(*l2.f0);
+    l18 = (slice_uint32_t){.f0 = l17, .f1 = l9};
+    l19 = (uint32_t *)(void *)&(*l3.f0);
+    l20 = (slice_uint32_t){.f0 = l19, .f1 = l3.f1};
+    l16 = judging__accept__accept_boxed(l10, l18, l20, l8.f2);
+    switch (l16.tag) {
+    case 0: {
+        l21 = l8;
+        break;
+    }
+    case 1: default: {
+        l11 = l16.s0;
+        l12 = l16.s1;
+        l21 = sheet__open__refused(l11, l12);
+        break;
+    }
+    }
+    l0 = l21;
     return l0;
 }
 
@@ -3993,9 +4060,9 @@ static INLINE type_sheet__open__Opened sheet__open__open_into(slice_uint8_t l1, 
         break;
     }
     }
-    l14 = fields__has_second(l1);
+    l14 = l4.f4;
     if (l14) {
-        l6 = (l4.f4 * UINT64_C(3));
+        l6 = (l4.f5 * UINT64_C(3));
         l7 = l4.f1;
         l16 = (uint32_t *)(void *)&(*l2.f0);
         l17 = (slice_uint32_t){.f0 = l16, .f1 = l6};
@@ -4057,7 +4124,7 @@ static INLINE type_judging__judge__Judgement zone__judge__judged_in(slice_uint8_
     }
     }
     l10 = l6.f1;
-    l11 = (l6.f4 * UINT64_C(3));
+    l11 = (l6.f5 * UINT64_C(3));
     l16 = (uint32_t *)(void *)&(*l3.f0);
     l17 = (slice_uint32_t){.f0 = l16, .f1 = l11};
     l18 = (uint32_t *)(void *)&(*l4.f0);
@@ -4066,43 +4133,87 @@ static INLINE type_judging__judge__Judgement zone__judge__judged_in(slice_uint8_
     return l0;
 }
 
-static APART type_judging__judge__Judgement zone__judge__judged(slice_uint8_t l1, type_sphere__point__Point l2, type_search__walk__Mode l3)
+static APART type_judging__judge__Judgement zone__judge__judged_short(slice_uint8_t l1, type_sphere__point__Point l2, type_search__walk__Mode l3)
 {
     type_judging__judge__Judgement l0;
     array_uint32_t_768 l4;
     array_uint32_t_48 l5;
-    array_uint32_t_12288 l6;
-    uint64_t l7;
-    bool l8;
-    array_uint32_t_768 *l9;
-    slice_uint32_t l10;
-    array_uint32_t_48 *l11;
-    slice_uint32_t l12;
-    array_uint32_t_12288 *l13;
-    slice_uint32_t l14;
-    array_uint32_t_768 *l15;
-    slice_uint32_t l16;
+    array_uint32_t_768 *l6;
+    slice_uint32_t l7;
+    array_uint32_t_48 *l8;
+    slice_uint32_t l9;
     for (size_t i = 0; i < 768; i++)
         l4.e[i] = UINT32_C(0);
-    l7 = l1.f1;
-    l8 = (l7 <= UINT64_C(3072));
-    if (l8) {
-        for (size_t i = 0; i < 48; i++)
-            l5.e[i] = UINT32_C(0);
-        l9 = (array_uint32_t_768 *)(void *)&l4;
-        l10 = (slice_uint32_t){.f0 = (uint32_t *)(void *)l9, .f1 = UINT64_C(768)};
-        l11 = (array_uint32_t_48 *)(void *)&l5;
-        l12 = (slice_uint32_t){.f0 = (uint32_t *)(void *)l11, .f1 = UINT64_C(48)};
-        l0 = zone__judge__judged_in(l1, l2, l10, l12, l3);
+    for (size_t i = 0; i < 48; i++)
+        l5.e[i] = UINT32_C(0);
+    l6 = (array_uint32_t_768 *)(void *)&l4;
+    l7 = (slice_uint32_t){.f0 = (uint32_t *)(void *)l6, .f1 = UINT64_C(768)};
+    l8 = (array_uint32_t_48 *)(void *)&l5;
+    l9 = (slice_uint32_t){.f0 = (uint32_t *)(void *)l8, .f1 = UINT64_C(48)};
+    l0 = zone__judge__judged_in(l1, l2, l7, l9, l3);
+    return l0;
+}
+
+static APART type_judging__judge__Judgement zone__judge__judged_middle(slice_uint8_t l1, type_sphere__point__Point l2, type_search__walk__Mode l3)
+{
+    type_judging__judge__Judgement l0;
+    array_uint32_t_4096 l4;
+    array_uint32_t_258 l5;
+    array_uint32_t_4096 *l6;
+    slice_uint32_t l7;
+    array_uint32_t_258 *l8;
+    slice_uint32_t l9;
+    for (size_t i = 0; i < 4096; i++)
+        l4.e[i] = UINT32_C(0);
+    for (size_t i = 0; i < 258; i++)
+        l5.e[i] = UINT32_C(0);
+    l6 = (array_uint32_t_4096 *)(void *)&l4;
+    l7 = (slice_uint32_t){.f0 = (uint32_t *)(void *)l6, .f1 = UINT64_C(4096)};
+    l8 = (array_uint32_t_258 *)(void *)&l5;
+    l9 = (slice_uint32_t){.f0 = (uint32_t *)(void *)l8, .f1 = UINT64_C(258)};
+    l0 = zone__judge__judged_in(l1, l2, l7, l9, l3);
+    return l0;
+}
+
+static APART type_judging__judge__Judgement zone__judge__judged_long(slice_uint8_t l1, type_sphere__point__Point l2, type_search__walk__Mode l3)
+{
+    type_judging__judge__Judgement l0;
+    array_uint32_t_12288 l4;
+    array_uint32_t_768 l5;
+    array_uint32_t_12288 *l6;
+    slice_uint32_t l7;
+    array_uint32_t_768 *l8;
+    slice_uint32_t l9;
+    for (size_t i = 0; i < 12288; i++)
+        l4.e[i] = UINT32_C(0);
+    for (size_t i = 0; i < 768; i++)
+        l5.e[i] = UINT32_C(0);
+    l6 = (array_uint32_t_12288 *)(void *)&l4;
+    l7 = (slice_uint32_t){.f0 = (uint32_t *)(void *)l6, .f1 = UINT64_C(12288)};
+    l8 = (array_uint32_t_768 *)(void *)&l5;
+    l9 = (slice_uint32_t){.f0 = (uint32_t *)(void *)l8, .f1 = UINT64_C(768)};
+    l0 = zone__judge__judged_in(l1, l2, l7, l9, l3);
+    return l0;
+}
+
+static INLINE type_judging__judge__Judgement zone__judge__judged(slice_uint8_t l1, type_sphere__point__Point l2, type_search__walk__Mode l3)
+{
+    type_judging__judge__Judgement l0;
+    uint64_t l4;
+    bool l5;
+    l4 = l1.f1;
+    l5 = (l4 <= UINT64_C(3072));
+    if (l5) {
+        l0 = zone__judge__judged_short(l1, l2, l3);
         return l0;
     }
-    for (size_t i = 0; i < 12288; i++)
-        l6.e[i] = UINT32_C(0);
-    l13 = (array_uint32_t_12288 *)(void *)&l6;
-    l14 = (slice_uint32_t){.f0 = (uint32_t *)(void *)l13, .f1 = UINT64_C(12288)};
-    l15 = (array_uint32_t_768 *)(void *)&l4;
-    l16 = (slice_uint32_t){.f0 = (uint32_t *)(void *)l15, .f1 = UINT64_C(768)};
-    l0 = zone__judge__judged_in(l1, l2, l14, l16, l3);
+    l4 = l1.f1;
+    l5 = (l4 <= UINT64_C(16384));
+    if (l5) {
+        l0 = zone__judge__judged_middle(l1, l2, l3);
+        return l0;
+    }
+    l0 = zone__judge__judged_long(l1, l2, l3);
     return l0;
 }
 
@@ -6393,7 +6504,7 @@ static INLINE void feed__judge_each(type_sphere__point__Grid l1, slice_uint32_t 
     return;
 }
 
-static type_answer__Answer zone__feeds__feed_in(slice_uint8_t l1, slice_uint8_t l2, slice_uint8_t l3, slice_uint32_t l4, slice_uint32_t l5)
+static INLINE type_answer__Answer zone__feeds__feed_in(slice_uint8_t l1, slice_uint8_t l2, slice_uint8_t l3, slice_uint32_t l4, slice_uint32_t l5)
 {
     type_answer__Answer l0;
     uint32_t l6;
@@ -6449,7 +6560,7 @@ static type_answer__Answer zone__feeds__feed_in(slice_uint8_t l1, slice_uint8_t 
     }
     }
     l12 = l8.f1;
-    l13 = (l8.f4 * UINT64_C(3));
+    l13 = (l8.f5 * UINT64_C(3));
     l21 = (uint32_t *)(void *)&(*l4.f0);
     l22 = (slice_uint32_t){.f0 = l21, .f1 = l13};
     l23 = (uint32_t *)(void *)&(*l5.f0);
@@ -6461,51 +6572,111 @@ static type_answer__Answer zone__feeds__feed_in(slice_uint8_t l1, slice_uint8_t 
     return l0;
 }
 
-static APART type_answer__Answer zone__feeds__feed(slice_uint8_t l1, slice_uint8_t l2, slice_uint8_t l3)
+static APART type_answer__Answer zone__feeds__feed_short(slice_uint8_t l1, slice_uint8_t l2, slice_uint8_t l3)
 {
     type_answer__Answer l0;
     array_uint32_t_768 l4;
     array_uint32_t_48 l5;
-    array_uint32_t_12288 l6;
-    uint64_t l7;
-    bool l8;
-    uint8_t *l9;
-    slice_uint8_t l10;
-    array_uint32_t_768 *l11;
-    slice_uint32_t l12;
-    array_uint32_t_48 *l13;
-    slice_uint32_t l14;
-    uint8_t *l15;
-    slice_uint8_t l16;
-    array_uint32_t_12288 *l17;
-    slice_uint32_t l18;
-    array_uint32_t_768 *l19;
-    slice_uint32_t l20;
+    uint8_t *l6;
+    slice_uint8_t l7;
+    array_uint32_t_768 *l8;
+    slice_uint32_t l9;
+    array_uint32_t_48 *l10;
+    slice_uint32_t l11;
     for (size_t i = 0; i < 768; i++)
         l4.e[i] = UINT32_C(0);
-    l7 = l1.f1;
-    l8 = (l7 <= UINT64_C(3072));
-    if (l8) {
-        for (size_t i = 0; i < 48; i++)
-            l5.e[i] = UINT32_C(0);
-        l9 = (uint8_t *)(void *)&(*l3.f0);
-        l10 = (slice_uint8_t){.f0 = l9, .f1 = l3.f1};
-        l11 = (array_uint32_t_768 *)(void *)&l4;
-        l12 = (slice_uint32_t){.f0 = (uint32_t *)(void *)l11, .f1 = UINT64_C(768)};
-        l13 = (array_uint32_t_48 *)(void *)&l5;
-        l14 = (slice_uint32_t){.f0 = (uint32_t *)(void *)l13, .f1 = UINT64_C(48)};
-        l0 = zone__feeds__feed_in(l1, l2, l10, l12, l14);
+    for (size_t i = 0; i < 48; i++)
+        l5.e[i] = UINT32_C(0);
+    l6 = (uint8_t *)(void *)&(*l3.f0);
+    l7 = (slice_uint8_t){.f0 = l6, .f1 = l3.f1};
+    l8 = (array_uint32_t_768 *)(void *)&l4;
+    l9 = (slice_uint32_t){.f0 = (uint32_t *)(void *)l8, .f1 = UINT64_C(768)};
+    l10 = (array_uint32_t_48 *)(void *)&l5;
+    l11 = (slice_uint32_t){.f0 = (uint32_t *)(void *)l10, .f1 = UINT64_C(48)};
+    l0 = zone__feeds__feed_in(l1, l2, l7, l9, l11);
+    return l0;
+}
+
+static APART type_answer__Answer zone__feeds__feed_middle(slice_uint8_t l1, slice_uint8_t l2, slice_uint8_t l3)
+{
+    type_answer__Answer l0;
+    array_uint32_t_4096 l4;
+    array_uint32_t_258 l5;
+    uint8_t *l6;
+    slice_uint8_t l7;
+    array_uint32_t_4096 *l8;
+    slice_uint32_t l9;
+    array_uint32_t_258 *l10;
+    slice_uint32_t l11;
+    for (size_t i = 0; i < 4096; i++)
+        l4.e[i] = UINT32_C(0);
+    for (size_t i = 0; i < 258; i++)
+        l5.e[i] = UINT32_C(0);
+    l6 = (uint8_t *)(void *)&(*l3.f0);
+    l7 = (slice_uint8_t){.f0 = l6, .f1 = l3.f1};
+    l8 = (array_uint32_t_4096 *)(void *)&l4;
+    l9 = (slice_uint32_t){.f0 = (uint32_t *)(void *)l8, .f1 = UINT64_C(4096)};
+    l10 = (array_uint32_t_258 *)(void *)&l5;
+    l11 = (slice_uint32_t){.f0 = (uint32_t *)(void *)l10, .f1 = UINT64_C(258)};
+    l0 = zone__feeds__feed_in(l1, l2, l7, l9, l11);
+    return l0;
+}
+
+static APART type_answer__Answer zone__feeds__feed_long(slice_uint8_t l1, slice_uint8_t l2, slice_uint8_t l3)
+{
+    type_answer__Answer l0;
+    array_uint32_t_12288 l4;
+    array_uint32_t_768 l5;
+    uint8_t *l6;
+    slice_uint8_t l7;
+    array_uint32_t_12288 *l8;
+    slice_uint32_t l9;
+    array_uint32_t_768 *l10;
+    slice_uint32_t l11;
+    for (size_t i = 0; i < 12288; i++)
+        l4.e[i] = UINT32_C(0);
+    for (size_t i = 0; i < 768; i++)
+        l5.e[i] = UINT32_C(0);
+    l6 = (uint8_t *)(void *)&(*l3.f0);
+    l7 = (slice_uint8_t){.f0 = l6, .f1 = l3.f1};
+    l8 = (array_uint32_t_12288 *)(void *)&l4;
+    l9 = (slice_uint32_t){.f0 = (uint32_t *)(void *)l8, .f1 = UINT64_C(12288)};
+    l10 = (array_uint32_t_768 *)(void *)&l5;
+    l11 = (slice_uint32_t){.f0 = (uint32_t *)(void *)l10, .f1 = UINT64_C(768)};
+    l0 = zone__feeds__feed_in(l1, l2, l7, l9, l11);
+    return l0;
+}
+
+static INLINE type_answer__Answer zone__feeds__feed(slice_uint8_t l1, slice_uint8_t l2, slice_uint8_t l3)
+{
+    type_answer__Answer l0;
+    uint64_t l4;
+    bool l5;
+    uint8_t *l6;
+    slice_uint8_t l7;
+    uint8_t *l8;
+    slice_uint8_t l9;
+    uint8_t *l10;
+    slice_uint8_t l11;
+    l4 = l1.f1;
+    l5 = (l4 <= UINT64_C(3072));
+    if (l5) {
+        l6 = (uint8_t *)(void *)&(*l3.f0);
+        l7 = (slice_uint8_t){.f0 = l6, .f1 = l3.f1};
+        l0 = zone__feeds__feed_short(l1, l2, l7);
         return l0;
     }
-    for (size_t i = 0; i < 12288; i++)
-        l6.e[i] = UINT32_C(0);
-    l15 = (uint8_t *)(void *)&(*l3.f0);
-    l16 = (slice_uint8_t){.f0 = l15, .f1 = l3.f1};
-    l17 = (array_uint32_t_12288 *)(void *)&l6;
-    l18 = (slice_uint32_t){.f0 = (uint32_t *)(void *)l17, .f1 = UINT64_C(12288)};
-    l19 = (array_uint32_t_768 *)(void *)&l4;
-    l20 = (slice_uint32_t){.f0 = (uint32_t *)(void *)l19, .f1 = UINT64_C(768)};
-    l0 = zone__feeds__feed_in(l1, l2, l16, l18, l20);
+    l4 = l1.f1;
+    l5 = (l4 <= UINT64_C(16384));
+    if (l5) {
+        l8 = (uint8_t *)(void *)&(*l3.f0);
+        l9 = (slice_uint8_t){.f0 = l8, .f1 = l3.f1};
+        l0 = zone__feeds__feed_middle(l1, l2, l9);
+        return l0;
+    }
+    l10 = (uint8_t *)(void *)&(*l3.f0);
+    l11 = (slice_uint8_t){.f0 = l10, .f1 = l3.f1};
+    l0 = zone__feeds__feed_long(l1, l2, l11);
     return l0;
 }
 
@@ -6714,7 +6885,7 @@ static APART type_answer__Answer zone__choose__choose(slice_uint8_t l1, slice_ui
     }
     }
     l9 = l5.f1;
-    l10 = (l5.f4 * UINT64_C(3));
+    l10 = (l5.f5 * UINT64_C(3));
     l18 = (array_uint32_t_12288 *)(void *)&l3;
     l19 = (slice_uint32_t){.f0 = (uint32_t *)(void *)l18, .f1 = l10};
     l20 = (array_uint32_t_768 *)(void *)&l4;
@@ -6765,7 +6936,7 @@ static INLINE type_answer__Check polygon__grids__grid_check(slice_uint32_t l1, b
     return l0;
 }
 
-static INLINE type_sphere__point__Grid basin__profile__grid_numbered(uint32_t l1)
+static INLINE type_sphere__point__Grid sphere__point__grid_numbered(uint32_t l1)
 {
     type_sphere__point__Grid l0;
     bool l2;
@@ -6805,7 +6976,7 @@ static INLINE type_answer__Check basin__profile__basin_check(slice_uint32_t l1, 
         break;
     }
     }
-    l10 = basin__profile__grid_numbered(l2);
+    l10 = sphere__point__grid_numbered(l2);
     l9 = polygon__checks__polygon_check(l10, l1);
     switch (l9.tag) {
     case 0: {
@@ -7090,7 +7261,7 @@ static INLINE type_basin__profile__Basin basin__profile__check_basin(slice_uint3
         break;
     }
     }
-    l9 = basin__profile__grid_numbered(l2);
+    l9 = sphere__point__grid_numbered(l2);
     l8 = basin__pairs__first_pair(l9, l1);
     switch (l8.tag) {
     case 0: {
@@ -7266,40 +7437,70 @@ static INLINE type_book__step__Step book__step__step_at(slice_uint8_t l1, uint64
 {
     type_book__step__Step l0;
     slice_uint8_t l3;
-    uint32_t l4;
-    uint64_t l5;
-    uint64_t l6;
-    bool l7;
-    unsigned char *l8;
-    uint8_t *l9;
-    type_answer__Check l10;
-    uint64_t l11;
-    l6 = l1.f1;
-    l7 = (l6 <= l2);
-    if (l7) {
+    type_fields__Parts l4;
+    type_answer__Check l5;
+    uint32_t l6;
+    uint64_t l7;
+    uint64_t l8;
+    bool l9;
+    unsigned char *l10;
+    uint8_t *l11;
+    type_book__step__Step l12;
+    uint64_t l13;
+    uint64_t l14;
+    l8 = l1.f1;
+    l9 = (l8 <= l2);
+    if (l9) {
         l0 = (type_book__step__Step){.tag = 2};
         return l0;
     }
-    l8 = ((unsigned char *)(void *)l1.f0 + (size_t)l2);
-    l6 = (l1.f1 - l2);
-    l9 = (uint8_t *)(void *)&(*(uint8_t *)(void *)l8);
-    l3 = (slice_uint8_t){.f0 = l9, .f1 = l6};
-    l10 = fields__sheet_fields(l3);
-    switch (l10.tag) {
-    case 1: {
-        l4 = l10.s0;
-        l5 = l10.s1;
-        l11 = (l2 + l5);
-        l0 = (type_book__step__Step){.tag = 1, .s2 = l4, .s0 = l11};
-        return l0;
+    l10 = ((unsigned char *)(void *)l1.f0 + (size_t)l2);
+    l8 = (l1.f1 - l2);
+    l11 = (uint8_t *)(void *)&(*(uint8_t *)(void *)l10);
+    l3 = (slice_uint8_t){.f0 = l11, .f1 = l8};
+    l4 = fields__sheet_fields(l3);
+    l5 = l4.f0;
+    switch (l5.tag) {
+    case 0: {
+        l13 = fields__sheet_end(l4);
+        l12 = (type_book__step__Step){.tag = 0, .s0 = l2, .s1 = l13};
         break;
     }
-    case 0: default: {
+    case 1: default: {
+        l6 = l5.s0;
+        l7 = l5.s1;
+        l14 = (l2 + l7);
+        l12 = (type_book__step__Step){.tag = 1, .s2 = l6, .s0 = l14};
         break;
     }
     }
-    l6 = fields__sheet_end(l3);
-    l0 = (type_book__step__Step){.tag = 0, .s0 = l2, .s1 = l6};
+    l0 = l12;
+    return l0;
+}
+
+static INLINE uint64_t fields__known_start(slice_uint8_t l1)
+{
+    uint64_t l0;
+    uint64_t l2;
+    uint32_t l3;
+    uint64_t l4;
+    uint64_t l5;
+    l2 = (UINT64_C(11) + UINT64_C(3));
+    l4 = (UINT64_C(11) + UINT64_C(1));
+    l3 = big_endian__read__short_at(l1, l4);
+    l5 = (uint64_t)l3;
+    l0 = (l2 + l5);
+    return l0;
+}
+
+static INLINE type_sphere__point__Grid fields__grid(slice_uint8_t l1)
+{
+    type_sphere__point__Grid l0;
+    uint64_t l2;
+    uint64_t l3;
+    l2 = fields__known_start(l1);
+    l3 = (l2 + UINT64_C(15));
+    l0 = fields__grid_at(l1, l3);
     return l0;
 }
 
@@ -7549,6 +7750,1513 @@ static INLINE uint64_t spargolutta__books__spg_book_refused(slice_uint8_t l1, ui
     return l0;
 }
 
+static INLINE type_answer__Check book_feed__whole__size_check(slice_uint8_t l1, uint64_t l2)
+{
+    type_answer__Check l0;
+    uint64_t l3;
+    uint64_t l4;
+    uint64_t l5;
+    bool l6;
+    l4 = l1.f1;
+    l5 = (l4 / UINT64_C(12));
+    l3 = (l5 * UINT64_C(24));
+    l4 = l1.f1;
+    l5 = (l4 % UINT64_C(12));
+    l6 = (l5 != UINT64_C(0));
+    if (l6) {
+        l0 = (type_answer__Check){.tag = 1, .s0 = UINT32_C(26), .s1 = UINT64_C(0)};
+        return l0;
+    }
+    l6 = (l2 < l3);
+    if (l6) {
+        l0 = (type_answer__Check){.tag = 1, .s0 = UINT32_C(27), .s1 = l3};
+        return l0;
+    }
+    l0 = (type_answer__Check){.tag = 0};
+    return l0;
+}
+
+static INLINE type_answer__Check book_feed__whole__book_check(slice_uint8_t l1)
+{
+    type_answer__Check l0;
+    uint64_t l2;
+    uint64_t l3;
+    uint64_t l4;
+    uint32_t l5;
+    uint64_t l6;
+    bool l7;
+    type_book__step__Step l8;
+    uint64_t l9;
+    bool l10;
+    l2 = UINT64_C(0);
+    l3 = UINT64_C(0);
+    for (;;) {
+        l7 = (l3 < UINT64_C(64));
+        if (l7) {
+        } else {
+            goto exit0;
+        }
+        l8 = book__step__step_at(l1, l2);
+        switch (l8.tag) {
+        case 0: {
+            l4 = l8.s1;
+            l2 = (l2 + l4);
+            break;
+        }
+        case 1: {
+            l5 = l8.s2;
+            l6 = l8.s0;
+            l0 = (type_answer__Check){.tag = 1, .s0 = l5, .s1 = l6};
+            return l0;
+            break;
+        }
+        case 2: default: {
+            l0 = (type_answer__Check){.tag = 0};
+            return l0;
+            break;
+        }
+        }
+        l3 = (l3 + UINT64_C(1));
+    }
+exit0:;
+    l9 = l1.f1;
+    l10 = (l2 < l9);
+    if (l10) {
+        l0 = (type_answer__Check){.tag = 1, .s0 = UINT32_C(36), .s1 = l2};
+        return l0;
+    }
+    l0 = (type_answer__Check){.tag = 0};
+    return l0;
+}
+
+static INLINE type_answer__Check book_feed__whole__feed_check(slice_uint8_t l1, slice_uint8_t l2, uint64_t l3)
+{
+    type_answer__Check l0;
+    uint32_t l4;
+    uint64_t l5;
+    type_answer__Check l6;
+    l6 = book_feed__whole__size_check(l2, l3);
+    switch (l6.tag) {
+    case 0: {
+        break;
+    }
+    case 1: default: {
+        l4 = l6.s0;
+        l5 = l6.s1;
+        l0 = (type_answer__Check){.tag = 1, .s0 = l4, .s1 = l5};
+        return l0;
+        break;
+    }
+    }
+    l0 = book_feed__whole__book_check(l1);
+    return l0;
+}
+
+static INLINE uint32_t book_feed__records__high(uint64_t l1)
+{
+    uint32_t l0;
+    uint64_t l2;
+    l2 = (l1 / UINT64_C(4294967296));
+    l0 = (uint32_t)l2;
+    return l0;
+}
+
+static INLINE uint32_t book_feed__records__low(uint64_t l1)
+{
+    uint32_t l0;
+    uint64_t l2;
+    l2 = (l1 % UINT64_C(4294967296));
+    l0 = (uint32_t)l2;
+    return l0;
+}
+
+static INLINE void book_feed__records__put_long(slice_uint8_t l1, uint64_t l2, uint64_t l3)
+{
+    uint8_t *l5;
+    slice_uint8_t l6;
+    uint32_t l7;
+    uint8_t *l8;
+    slice_uint8_t l9;
+    uint64_t l10;
+    l5 = (uint8_t *)(void *)&(*l1.f0);
+    l6 = (slice_uint8_t){.f0 = l5, .f1 = l1.f1};
+    l7 = book_feed__records__high(l3);
+    big_endian__store__put_word(l6, l2, l7);
+    l8 = (uint8_t *)(void *)&(*l1.f0);
+    l9 = (slice_uint8_t){.f0 = l8, .f1 = l1.f1};
+    l10 = (l2 + UINT64_C(4));
+    l7 = book_feed__records__low(l3);
+    big_endian__store__put_word(l9, l10, l7);
+    return;
+}
+
+static INLINE void book_feed__records__put_sets(slice_uint8_t l1, uint64_t l2, type_book__sets__Sets l3)
+{
+    uint8_t *l5;
+    slice_uint8_t l6;
+    uint8_t *l7;
+    slice_uint8_t l8;
+    uint64_t l9;
+    uint8_t *l10;
+    slice_uint8_t l11;
+    l5 = (uint8_t *)(void *)&(*l1.f0);
+    l6 = (slice_uint8_t){.f0 = l5, .f1 = l1.f1};
+    book_feed__records__put_long(l6, l2, l3.f0);
+    l7 = (uint8_t *)(void *)&(*l1.f0);
+    l8 = (slice_uint8_t){.f0 = l7, .f1 = l1.f1};
+    l9 = (l2 + UINT64_C(8));
+    book_feed__records__put_long(l8, l9, l3.f1);
+    l10 = (uint8_t *)(void *)&(*l1.f0);
+    l11 = (slice_uint8_t){.f0 = l10, .f1 = l1.f1};
+    l9 = (l2 + UINT64_C(16));
+    book_feed__records__put_long(l11, l9, l3.f2);
+    return;
+}
+
+static INLINE void book_feed__whole__clear(slice_uint8_t l1, slice_uint8_t l2)
+{
+    uint64_t l3;
+    uint64_t l4;
+    type_book__sets__Sets l5;
+    uint64_t l6;
+    bool l7;
+    uint8_t *l9;
+    slice_uint8_t l10;
+    uint64_t l11;
+    l6 = l1.f1;
+    l3 = (l6 / UINT64_C(12));
+    l4 = UINT64_C(0);
+    for (;;) {
+        l7 = (l4 < l3);
+        if (l7) {
+        } else {
+            goto exit0;
+        }
+        l5 = (type_book__sets__Sets){.f0 = UINT64_C(0), .f1 = UINT64_C(0), .f2 = UINT64_C(0)};
+        l9 = (uint8_t *)(void *)&(*l2.f0);
+        l10 = (slice_uint8_t){.f0 = l9, .f1 = l2.f1};
+        l11 = (l4 * UINT64_C(24));
+        book_feed__records__put_sets(l10, l11, l5);
+        l4 = (l4 + UINT64_C(1));
+    }
+exit0:;
+    return;
+}
+
+static INLINE uint64_t book_feed__records__wide(uint32_t l1)
+{
+    uint64_t l0;
+    l0 = (uint64_t)l1;
+    return l0;
+}
+
+static INLINE uint64_t book_feed__records__long_at(slice_uint8_t l1, uint64_t l2)
+{
+    uint64_t l0;
+    uint64_t l3;
+    uint32_t l4;
+    uint64_t l5;
+    uint64_t l6;
+    uint32_t l7;
+    uint64_t l8;
+    l4 = big_endian__read__word_at(l1, l2);
+    l3 = book_feed__records__wide(l4);
+    l5 = (l3 << 32);
+    l8 = (l2 + UINT64_C(4));
+    l7 = big_endian__read__word_at(l1, l8);
+    l6 = book_feed__records__wide(l7);
+    l0 = (l5 + l6);
+    return l0;
+}
+
+static INLINE type_book__sets__Sets book_feed__records__sets_in(slice_uint8_t l1, uint64_t l2)
+{
+    type_book__sets__Sets l0;
+    uint64_t l3;
+    uint64_t l4;
+    uint64_t l5;
+    uint64_t l6;
+    uint64_t l7;
+    l3 = book_feed__records__long_at(l1, l2);
+    l5 = (l2 + UINT64_C(8));
+    l4 = book_feed__records__long_at(l1, l5);
+    l7 = (l2 + UINT64_C(16));
+    l6 = book_feed__records__long_at(l1, l7);
+    l0 = (type_book__sets__Sets){.f0 = l3, .f1 = l4, .f2 = l6};
+    return l0;
+}
+
+static void book_feed__adding__put_zone(slice_uint8_t l1, uint64_t l2, uint64_t l3, type_answer__Answer l4)
+{
+    type_book__sets__Sets l5;
+    uint8_t *l6;
+    slice_uint8_t l7;
+    uint8_t *l9;
+    slice_uint8_t l10;
+    type_book__sets__Sets l11;
+    l6 = (uint8_t *)(void *)&(*l1.f0);
+    l7 = (slice_uint8_t){.f0 = l6, .f1 = l1.f1};
+    l5 = book_feed__records__sets_in(l7, l2);
+    l9 = (uint8_t *)(void *)&(*l1.f0);
+    l10 = (slice_uint8_t){.f0 = l9, .f1 = l1.f1};
+    l11 = book__zones__with_zone(l5, l3, l4);
+    book_feed__records__put_sets(l10, l2, l11);
+    return;
+}
+
+static INLINE void book_feed__adding__add_all(slice_uint8_t l1, uint64_t l2, type_answer__Answer l3, slice_uint8_t l4)
+{
+    uint64_t l5;
+    uint64_t l6;
+    uint64_t l7;
+    bool l8;
+    uint8_t *l10;
+    slice_uint8_t l11;
+    uint64_t l12;
+    l7 = l1.f1;
+    l5 = (l7 / UINT64_C(12));
+    l6 = UINT64_C(0);
+    for (;;) {
+        l8 = (l6 < l5);
+        if (l8) {
+        } else {
+            goto exit0;
+        }
+        l10 = (uint8_t *)(void *)&(*l4.f0);
+        l11 = (slice_uint8_t){.f0 = l10, .f1 = l4.f1};
+        l12 = (l6 * UINT64_C(24));
+        book_feed__adding__put_zone(l11, l12, l2, l3);
+        l6 = (l6 + UINT64_C(1));
+    }
+exit0:;
+    return;
+}
+
+static INLINE double separation__find__float_at(slice_uint32_t l1, uint64_t l2)
+{
+    double l0;
+    uint64_t l3;
+    unsigned char *l4;
+    uint32_t l5;
+    l3 = (l2 << 2);
+    l4 = ((unsigned char *)(void *)l1.f0 + (size_t)l3);
+    l5 = (*(uint32_t *)(void *)l4);
+    l0 = (double)signed32(l5);
+    return l0;
+}
+
+static INLINE type_separation__find__Vector separation__find__sum_of(slice_uint32_t l1)
+{
+    type_separation__find__Vector l0;
+    double l2;
+    double l3;
+    double l4;
+    uint64_t l5;
+    uint64_t l6;
+    uint64_t l7;
+    uint64_t l8;
+    bool l9;
+    double l10;
+    uint64_t l11;
+    l2 = (0x0.0p+0);
+    l3 = (0x0.0p+0);
+    l4 = (0x0.0p+0);
+    l8 = l1.f1;
+    l5 = (l8 / UINT64_C(3));
+    l6 = UINT64_C(0);
+    for (;;) {
+        l9 = (l6 < l5);
+        if (l9) {
+        } else {
+            goto exit0;
+        }
+        l7 = (l6 * UINT64_C(3));
+        l10 = separation__find__float_at(l1, l7);
+        l2 = (l2 + l10);
+        l11 = (l7 + UINT64_C(1));
+        l10 = separation__find__float_at(l1, l11);
+        l3 = (l3 + l10);
+        l11 = (l7 + UINT64_C(2));
+        l10 = separation__find__float_at(l1, l11);
+        l4 = (l4 + l10);
+        l6 = (l6 + UINT64_C(1));
+    }
+exit0:;
+    l0 = (type_separation__find__Vector){.f0 = l2, .f1 = l3, .f2 = l4};
+    return l0;
+}
+
+static INLINE double separation__find__size(double l1)
+{
+    double l0;
+    bool l2;
+    l2 = (l1 < (0x0.0p+0));
+    if (l2) {
+        l0 = (-l1);
+        return l0;
+    }
+    l0 = l1;
+    return l0;
+}
+
+static INLINE double separation__find__larger(double l1, double l2)
+{
+    double l0;
+    bool l3;
+    l3 = (l1 < l2);
+    if (l3) {
+        l0 = l2;
+        return l0;
+    }
+    l0 = l1;
+    return l0;
+}
+
+static INLINE type_separation__find__Vector separation__find__first_tangent(type_separation__find__Vector l1)
+{
+    type_separation__find__Vector l0;
+    double l2;
+    double l3;
+    double l4;
+    double l5;
+    bool l6;
+    double l7;
+    l2 = separation__find__size(l1.f0);
+    l3 = separation__find__size(l1.f1);
+    l4 = separation__find__size(l1.f2);
+    l5 = separation__find__larger(l3, l4);
+    l6 = (l5 <= l2);
+    if (l6) {
+        l7 = (-l1.f0);
+        l0 = (type_separation__find__Vector){.f0 = l1.f2, .f1 = (0x0.0p+0), .f2 = l7};
+        return l0;
+    }
+    l5 = (-l1.f2);
+    l0 = (type_separation__find__Vector){.f0 = (0x0.0p+0), .f1 = l5, .f2 = l1.f1};
+    return l0;
+}
+
+static INLINE type_separation__find__Vector separation__find__second_tangent(type_separation__find__Vector l1)
+{
+    type_separation__find__Vector l0;
+    double l2;
+    double l3;
+    double l4;
+    double l5;
+    bool l6;
+    double l7;
+    l2 = separation__find__size(l1.f0);
+    l3 = separation__find__size(l1.f1);
+    l4 = separation__find__size(l1.f2);
+    l5 = separation__find__larger(l2, l3);
+    l6 = (l5 <= l4);
+    if (l6) {
+        l7 = (-l1.f0);
+        l0 = (type_separation__find__Vector){.f0 = l1.f2, .f1 = (0x0.0p+0), .f2 = l7};
+        return l0;
+    }
+    l5 = (-l1.f1);
+    l0 = (type_separation__find__Vector){.f0 = l5, .f1 = l1.f0, .f2 = (0x0.0p+0)};
+    return l0;
+}
+
+static INLINE double separation__find__dot_at(slice_uint32_t l1, uint64_t l2, type_separation__find__Vector l3)
+{
+    double l0;
+    uint64_t l4;
+    double l5;
+    double l6;
+    double l7;
+    uint64_t l8;
+    double l9;
+    double l10;
+    double l11;
+    uint64_t l12;
+    double l13;
+    l4 = (l2 * UINT64_C(3));
+    l5 = separation__find__float_at(l1, l4);
+    l6 = (l3.f0 * l5);
+    l8 = (l4 + UINT64_C(1));
+    l7 = separation__find__float_at(l1, l8);
+    l9 = (l3.f1 * l7);
+    l10 = (l6 + l9);
+    l12 = (l4 + UINT64_C(2));
+    l11 = separation__find__float_at(l1, l12);
+    l13 = (l3.f2 * l11);
+    l0 = (l10 + l13);
+    return l0;
+}
+
+static INLINE type_separation__find__Slopes separation__find__slopes_of(slice_uint32_t l1, type_separation__find__Vector l2, type_separation__find__Vector l3)
+{
+    type_separation__find__Slopes l0;
+    double l4;
+    double l5;
+    uint64_t l6;
+    uint64_t l7;
+    double l8;
+    uint64_t l9;
+    bool l10;
+    double l11;
+    double l12;
+    l4 = (0x1.0000000000000p+0);
+    l5 = (-(0x1.0000000000000p+0));
+    l9 = l1.f1;
+    l6 = (l9 / UINT64_C(3));
+    l7 = UINT64_C(0);
+    for (;;) {
+        l10 = (l7 < l6);
+        if (l10) {
+        } else {
+            goto exit0;
+        }
+        l11 = separation__find__dot_at(l1, l7, l3);
+        l12 = separation__find__dot_at(l1, l7, l2);
+        l8 = (l11 / l12);
+        l10 = (l8 < l4);
+        if (l10) {
+            l4 = l8;
+        }
+        l10 = (l5 < l8);
+        if (l10) {
+            l5 = l8;
+        }
+        l7 = (l7 + UINT64_C(1));
+    }
+exit0:;
+    l0 = (type_separation__find__Slopes){.f0 = l4, .f1 = l5};
+    return l0;
+}
+
+static INLINE uint64_t std__num__truncating_f64_to_u64(double l1)
+{
+    uint64_t l0;
+    uint64_t l2;
+    uint64_t l3;
+    uint64_t l4;
+    bool l5;
+    uint64_t l6;
+    uint64_t l7;
+    bool l8;
+    uint64_t l9;
+    uint64_t l10;
+    uint64_t l11;
+    l5 = ((0x1.0000000000000p+0) <= l1);
+    if (l5) {
+        l2 = float_bits(l1);
+        l3 = (l2 >> UINT64_C(52));
+        l7 = (l2 & UINT64_C(4503599627370495));
+        l4 = (l7 | UINT64_C(4503599627370496));
+        l8 = (l3 <= UINT64_C(1075));
+        if (l8) {
+            l10 = (UINT64_C(1075) - l3);
+            l9 = (l4 >> l10);
+        } else {
+            l11 = (l3 - UINT64_C(1075));
+            l9 = (l4 << l11);
+        }
+        l6 = l9;
+    } else {
+        l6 = UINT64_C(0);
+    }
+    l0 = l6;
+    return l0;
+}
+
+static INLINE uint64_t std__num__truncating_f64_to_i64(double l1)
+{
+    uint64_t l0;
+    bool l2;
+    uint64_t l3;
+    uint64_t l4;
+    double l5;
+    bool l6;
+    uint64_t l7;
+    uint64_t l8;
+    double l9;
+    uint64_t l10;
+    uint64_t l11;
+    l2 = ((0x1.0000000000000p+0) <= l1);
+    if (l2) {
+        l4 = std__num__truncating_f64_to_u64(l1);
+        l3 = (uint64_t)l4;
+    } else {
+        l5 = (-(0x1.0000000000000p+0));
+        l6 = (l1 <= l5);
+        if (l6) {
+            l9 = (-l1);
+            l8 = std__num__truncating_f64_to_u64(l9);
+            l10 = (l8 - UINT64_C(1));
+            l11 = (uint64_t)l10;
+            l7 = (UINT64_C(18446744073709551615) - l11);
+        } else {
+            l7 = UINT64_C(0);
+        }
+        l3 = l7;
+    }
+    l0 = l3;
+    return l0;
+}
+
+static INLINE uint64_t separation__find__whole(double l1)
+{
+    uint64_t l0;
+    double l2;
+    bool l3;
+    bool l4;
+    l2 = (-(0x1.0000000000000p+63));
+    l3 = (l2 <= l1);
+    if (l3) {
+        l4 = (l1 < (0x1.0000000000000p+63));
+        if (l4) {
+            l0 = std__num__truncating_f64_to_i64(l1);
+            return l0;
+        }
+    }
+    l0 = UINT64_C(0);
+    return l0;
+}
+
+static INLINE type_sphere__point__Point separation__find__normal_of(double l1, double l2, double l3)
+{
+    type_sphere__point__Point l0;
+    double l4;
+    double l5;
+    double l6;
+    double l7;
+    double l8;
+    double l9;
+    uint64_t l10;
+    uint64_t l11;
+    uint64_t l12;
+    l6 = separation__find__size(l1);
+    l8 = separation__find__size(l2);
+    l9 = separation__find__size(l3);
+    l7 = separation__find__larger(l8, l9);
+    l5 = separation__find__larger(l6, l7);
+    l4 = ((0x1.ffffff8000000p+25) / l5);
+    l5 = (l1 * l4);
+    l10 = separation__find__whole(l5);
+    l9 = (l2 * l4);
+    l11 = separation__find__whole(l9);
+    l8 = (l3 * l4);
+    l12 = separation__find__whole(l8);
+    l0 = (type_sphere__point__Point){.f0 = l10, .f1 = l11, .f2 = l12};
+    return l0;
+}
+
+static INLINE type_sphere__point__Point separation__find__beside(type_separation__find__Vector l1, type_separation__find__Vector l2, double l3, double l4)
+{
+    type_sphere__point__Point l0;
+    double l5;
+    double l6;
+    double l7;
+    double l8;
+    double l9;
+    double l10;
+    double l11;
+    double l12;
+    double l13;
+    l5 = (l3 * l1.f0);
+    l6 = (l4 * l2.f0);
+    l7 = (l5 + l6);
+    l8 = (l3 * l1.f1);
+    l9 = (l4 * l2.f1);
+    l10 = (l8 + l9);
+    l11 = (l3 * l1.f2);
+    l12 = (l4 * l2.f2);
+    l13 = (l11 + l12);
+    l0 = separation__find__normal_of(l7, l10, l13);
+    return l0;
+}
+
+static INLINE type_sphere__point__Point separation__planes__no_plane(void)
+{
+    type_sphere__point__Point l0;
+    l0 = (type_sphere__point__Point){.f0 = UINT64_C(0), .f1 = UINT64_C(0), .f2 = UINT64_C(0)};
+    return l0;
+}
+
+static INLINE bool separation__planes__stands_ahead(type_sphere__point__Point l1, type_sphere__point__Point l2)
+{
+    bool l0;
+    uint64_t l3;
+    l3 = sphere__orientation__dot(l1, l2);
+    l0 = (signed64(UINT64_C(0)) < signed64(l3));
+    return l0;
+}
+
+static INLINE bool separation__planes__is_ahead(slice_uint32_t l1, type_sphere__point__Point l2)
+{
+    bool l0;
+    uint64_t l3;
+    uint64_t l4;
+    uint64_t l5;
+    bool l6;
+    type_sphere__point__Point l7;
+    bool l8;
+    l5 = l1.f1;
+    l3 = (l5 / UINT64_C(3));
+    l4 = UINT64_C(0);
+    for (;;) {
+        l6 = (l4 < l3);
+        if (l6) {
+        } else {
+            goto exit0;
+        }
+        l7 = polygon__vertices__vertex_at(l1, l4);
+        l6 = separation__planes__stands_ahead(l2, l7);
+        l8 = !l6;
+        if (l8) {
+            l0 = false;
+            return l0;
+        }
+        l4 = (l4 + UINT64_C(1));
+    }
+exit0:;
+    l0 = true;
+    return l0;
+}
+
+static INLINE type_sphere__point__Point separation__planes__screen(slice_uint32_t l1, type_sphere__point__Point l2)
+{
+    type_sphere__point__Point l0;
+    bool l3;
+    type_sphere__point__Grid l4;
+    bool l5;
+    l4 = (type_sphere__point__Grid){.tag = 1};
+    l3 = sphere__point__is_off_grid(l4, l2);
+    if (l3) {
+        l0 = separation__planes__no_plane();
+        return l0;
+    }
+    l5 = separation__planes__is_ahead(l1, l2);
+    if (l5) {
+        l0 = l2;
+        return l0;
+    }
+    l0 = separation__planes__no_plane();
+    return l0;
+}
+
+static type_separation__planes__Planes separation__planes__planes_by(slice_uint32_t l1, type_sphere__point__Point l2, type_sphere__point__Point l3, type_sphere__point__Point l4, type_sphere__point__Point l5)
+{
+    type_separation__planes__Planes l0;
+    type_sphere__point__Point l6;
+    type_sphere__point__Point l7;
+    type_sphere__point__Point l8;
+    type_sphere__point__Point l9;
+    l6 = separation__planes__screen(l1, l2);
+    l7 = separation__planes__screen(l1, l3);
+    l8 = separation__planes__screen(l1, l4);
+    l9 = separation__planes__screen(l1, l5);
+    l0 = (type_separation__planes__Planes){.f0 = l6, .f1 = l7, .f2 = l8, .f3 = l9};
+    return l0;
+}
+
+static type_separation__planes__Planes separation__find__planes_of(slice_uint32_t l1)
+{
+    type_separation__planes__Planes l0;
+    type_separation__find__Vector l2;
+    type_separation__find__Vector l3;
+    type_separation__find__Vector l4;
+    type_separation__find__Slopes l5;
+    type_separation__find__Slopes l6;
+    type_sphere__point__Point l7;
+    type_sphere__point__Point l8;
+    type_sphere__point__Point l9;
+    type_sphere__point__Point l10;
+    double l11;
+    double l12;
+    l2 = separation__find__sum_of(l1);
+    l3 = separation__find__first_tangent(l2);
+    l4 = separation__find__second_tangent(l2);
+    l5 = separation__find__slopes_of(l1, l2, l3);
+    l6 = separation__find__slopes_of(l1, l2, l4);
+    l11 = ((0x1.0c6f7a0b5ed8dp-21) - l5.f0);
+    l7 = separation__find__beside(l3, l2, (0x1.0000000000000p+0), l11);
+    l11 = (-(0x1.0000000000000p+0));
+    l12 = ((0x1.0c6f7a0b5ed8dp-21) + l5.f1);
+    l8 = separation__find__beside(l3, l2, l11, l12);
+    l11 = ((0x1.0c6f7a0b5ed8dp-21) - l6.f0);
+    l9 = separation__find__beside(l4, l2, (0x1.0000000000000p+0), l11);
+    l12 = (-(0x1.0000000000000p+0));
+    l11 = ((0x1.0c6f7a0b5ed8dp-21) + l6.f1);
+    l10 = separation__find__beside(l4, l2, l12, l11);
+    l0 = separation__planes__planes_by(l1, l7, l8, l9, l10);
+    return l0;
+}
+
+static INLINE uint64_t separation__planes__negated(uint64_t l1)
+{
+    uint64_t l0;
+    l0 = (UINT64_C(0) - l1);
+    return l0;
+}
+
+static INLINE type_sphere__point__Point separation__planes__away(slice_uint32_t l1)
+{
+    type_sphere__point__Point l0;
+    uint64_t l2;
+    uint64_t l3;
+    uint64_t l4;
+    uint64_t l5;
+    uint64_t l6;
+    uint64_t l7;
+    l3 = polygon__vertices__number_at(l1, UINT64_C(0));
+    l2 = separation__planes__negated(l3);
+    l5 = polygon__vertices__number_at(l1, UINT64_C(1));
+    l4 = separation__planes__negated(l5);
+    l7 = polygon__vertices__number_at(l1, UINT64_C(2));
+    l6 = separation__planes__negated(l7);
+    l0 = (type_sphere__point__Point){.f0 = l2, .f1 = l4, .f2 = l6};
+    return l0;
+}
+
+static INLINE bool book_feed__indexed__is_past(type_sphere__point__Point l1, type_sphere__point__Point l2)
+{
+    bool l0;
+    uint64_t l3;
+    l3 = sphere__orientation__dot(l1, l2);
+    l0 = (signed64(l3) < signed64(UINT64_C(0)));
+    return l0;
+}
+
+static INLINE bool book_feed__indexed__is_aside(slice_uint32_t l1, type_separation__planes__Planes l2, type_sphere__point__Point l3)
+{
+    bool l0;
+    type_sphere__point__Point l4;
+    type_sphere__point__Point l5;
+    type_sphere__point__Point l6;
+    type_sphere__point__Point l7;
+    bool l8;
+    bool l9;
+    bool l10;
+    (void)l1;
+    l4 = l2.f0;
+    l5 = l2.f1;
+    l6 = l2.f2;
+    l7 = l2.f3;
+    l8 = book_feed__indexed__is_past(l4, l3);
+    l9 = book_feed__indexed__is_past(l5, l3);
+    l10 = (l8 | l9);
+    if (l10) {
+        l0 = true;
+        return l0;
+    }
+    l8 = book_feed__indexed__is_past(l6, l3);
+    l10 = book_feed__indexed__is_past(l7, l3);
+    l0 = (l8 | l10);
+    return l0;
+}
+
+static INLINE uint64_t book_feed__indexed__near_one(type_sphere__point__Grid l1, slice_uint32_t l2, type_separation__planes__Planes l3, type_sphere__point__Point l4)
+{
+    uint64_t l0;
+    bool l5;
+    bool l6;
+    l5 = sphere__point__is_off_grid(l1, l4);
+    if (l5) {
+        l0 = UINT64_C(1);
+        return l0;
+    }
+    l6 = book_feed__indexed__is_aside(l2, l3, l4);
+    if (l6) {
+        l0 = UINT64_C(0);
+        return l0;
+    }
+    l0 = UINT64_C(1);
+    return l0;
+}
+
+static INLINE uint64_t book_feed__indexed__near_at(type_sphere__point__Grid l1, slice_uint32_t l2, type_separation__planes__Planes l3, slice_uint8_t l4, uint64_t l5)
+{
+    uint64_t l0;
+    type_sphere__point__Point l6;
+    uint64_t l7;
+    l7 = (l5 * UINT64_C(12));
+    l6 = big_endian__read__point_at(l4, l7);
+    l0 = book_feed__indexed__near_one(l1, l2, l3, l6);
+    return l0;
+}
+
+static INLINE bool book_feed__indexed__is_worth_either(type_sphere__point__Grid l1, slice_uint32_t l2, type_separation__planes__Planes l3, slice_uint8_t l4)
+{
+    bool l0;
+    uint64_t l5;
+    uint64_t l6;
+    uint64_t l7;
+    uint64_t l8;
+    uint64_t l9;
+    uint64_t l10;
+    uint64_t l11;
+    bool l12;
+    bool l13;
+    uint64_t l14;
+    l10 = l4.f1;
+    l5 = (l10 / UINT64_C(12));
+    l10 = l2.f1;
+    l11 = (l10 / UINT64_C(24));
+    l6 = (l11 + UINT64_C(128));
+    l12 = (l5 < l6);
+    if (l12) {
+        l0 = false;
+        return l0;
+    }
+    l10 = (l5 / UINT64_C(1024));
+    l7 = (l10 + UINT64_C(16));
+    l8 = UINT64_C(0);
+    l9 = UINT64_C(0);
+    for (;;) {
+        l13 = (l9 < l5);
+        if (l13) {
+        } else {
+            goto exit0;
+        }
+        l14 = book_feed__indexed__near_at(l1, l2, l3, l4, l9);
+        l8 = (l8 + l14);
+        l9 = (l9 + l7);
+    }
+exit0:;
+    l11 = (l6 - UINT64_C(1));
+    l10 = (l11 / l7);
+    l0 = (l10 < l8);
+    return l0;
+}
+
+static INLINE bool book_feed__indexed__is_worth(type_sphere__point__Grid l1, slice_uint32_t l2, type_separation__planes__Planes l3, slice_uint8_t l4)
+{
+    return l1.tag == 0 ? book_feed__indexed__is_worth_either((type_sphere__point__Grid){.tag = 0}, l2, l3, l4) : book_feed__indexed__is_worth_either((type_sphere__point__Grid){.tag = 1}, l2, l3, l4);
+}
+
+static INLINE bool separation__planes__falls_behind(type_sphere__point__Point l1, type_sphere__point__Point l2)
+{
+    bool l0;
+    uint64_t l3;
+    l3 = sphere__orientation__dot(l1, l2);
+    l0 = (signed64(l3) < signed64(UINT64_C(0)));
+    return l0;
+}
+
+static INLINE bool separation__planes__is_behind(slice_uint32_t l1, type_separation__planes__Planes l2, type_sphere__point__Point l3)
+{
+    bool l0;
+    type_sphere__point__Point l4;
+    type_sphere__point__Point l5;
+    type_sphere__point__Point l6;
+    type_sphere__point__Point l7;
+    bool l8;
+    bool l9;
+    bool l10;
+    (void)l1;
+    l4 = l2.f0;
+    l5 = l2.f1;
+    l6 = l2.f2;
+    l7 = l2.f3;
+    l8 = separation__planes__falls_behind(l4, l3);
+    l9 = separation__planes__falls_behind(l5, l3);
+    l10 = (l8 | l9);
+    if (l10) {
+        l0 = true;
+        return l0;
+    }
+    l8 = separation__planes__falls_behind(l6, l3);
+    l10 = separation__planes__falls_behind(l7, l3);
+    l0 = (l8 | l10);
+    return l0;
+}
+
+static INLINE bool separation__planes__is_opposite(type_sphere__point__Point l1, type_sphere__point__Point l2)
+{
+    bool l0;
+    uint64_t l3;
+    uint64_t l4;
+    uint64_t l5;
+    uint64_t l6;
+    uint64_t l7;
+    uint64_t l8;
+    uint64_t l9;
+    bool l10;
+    l3 = l1.f0;
+    l4 = l1.f1;
+    l5 = l2.f0;
+    l6 = l2.f1;
+    l7 = (l3 * l6);
+    l8 = (l4 * l5);
+    l9 = (l7 - l8);
+    l10 = (l9 != UINT64_C(0));
+    if (l10) {
+        l0 = false;
+        return l0;
+    }
+    l0 = sphere__direction__antipodal(l1, l2);
+    return l0;
+}
+
+static INLINE bool separation__planes__is_separated(type_sphere__point__Grid l1, slice_uint32_t l2, type_separation__planes__Planes l3, type_sphere__point__Point l4, type_sphere__point__Point l5)
+{
+    bool l0;
+    bool l6;
+    bool l7;
+    bool l8;
+    l6 = sphere__point__is_off_grid(l1, l5);
+    if (l6) {
+        l0 = false;
+        return l0;
+    }
+    l7 = separation__planes__is_behind(l2, l3, l5);
+    if (l7) {
+        l8 = separation__planes__is_opposite(l4, l5);
+        l0 = !l8;
+        return l0;
+    }
+    l0 = false;
+    return l0;
+}
+
+static type_answer__Answer book_feed__judged__answer_for(type_sphere__point__Grid l1, slice_uint32_t l2, slice_uint32_t l3, slice_uint16_t l4, slice_uint16_t l5, slice_uint16_t l6, slice_uint16_t l7, slice_uint16_t l8, type_cones__build__Index l9, type_separation__planes__Planes l10, type_answer__Answer l11, type_sphere__point__Point l12, type_sphere__point__Point l13, type_sphere__point__Point l14)
+{
+    type_answer__Answer l0;
+    type_search__walk__Mode l15;
+    bool l16;
+    uint64_t l17;
+    uint16_t *l18;
+    slice_uint16_t l19;
+    l16 = separation__planes__is_separated(l1, l2, l10, l12, l14);
+    if (l16) {
+        l0 = l11;
+        return l0;
+    }
+    l17 = l2.f1;
+    l15 = feed__mode_for(l17);
+    l18 = (uint16_t *)(void *)&(*l8.f0);
+    l19 = (slice_uint16_t){.f0 = l18, .f1 = l8.f1};
+    l0 = feed__indexed__judge_indexed(l1, l2, l3, l4, l5, l6, l7, l19, l9, l12, l13, l14, l15);
+    return l0;
+}
+
+static INLINE bool book_feed__adding__holds_none(type_answer__Answer l1)
+{
+    bool l0;
+    bool l2;
+    switch (l1.tag) {
+    case 0: {
+        l2 = true;
+        break;
+    }
+    case 1: {
+        l2 = false;
+        break;
+    }
+    case 2: {
+        l2 = true;
+        break;
+    }
+    case 3: {
+        l2 = false;
+        break;
+    }
+    case 4: default: {
+        l2 = false;
+        break;
+    }
+    }
+    l0 = l2;
+    return l0;
+}
+
+static INLINE void book_feed__adding__add_to(slice_uint8_t l1, uint64_t l2, uint64_t l3, type_answer__Answer l4)
+{
+    bool l5;
+    uint8_t *l7;
+    slice_uint8_t l8;
+    l5 = book_feed__adding__holds_none(l4);
+    if (l5) {
+        return;
+    }
+    l7 = (uint8_t *)(void *)&(*l1.f0);
+    l8 = (slice_uint8_t){.f0 = l7, .f1 = l1.f1};
+    book_feed__adding__put_zone(l8, l2, l3, l4);
+    return;
+}
+
+static INLINE void book_feed__judged__add_judged_either(type_sphere__point__Grid l1, slice_uint32_t l2, slice_uint32_t l3, slice_uint16_t l4, slice_uint16_t l5, slice_uint16_t l6, slice_uint16_t l7, slice_uint16_t l8, type_cones__build__Index l9, type_separation__planes__Planes l10, type_answer__Answer l11, type_sphere__point__Point l12, type_sphere__point__Point l13, uint64_t l14, slice_uint8_t l15, slice_uint8_t l16)
+{
+    uint64_t l17;
+    uint64_t l18;
+    type_sphere__point__Point l19;
+    type_answer__Answer l20;
+    uint64_t l21;
+    bool l22;
+    uint64_t l23;
+    uint16_t *l24;
+    slice_uint16_t l25;
+    uint8_t *l27;
+    slice_uint8_t l28;
+    l21 = l15.f1;
+    l17 = (l21 / UINT64_C(12));
+    l18 = UINT64_C(0);
+    for (;;) {
+        l22 = (l18 < l17);
+        if (l22) {
+        } else {
+            goto exit0;
+        }
+        l23 = (l18 * UINT64_C(12));
+        l19 = big_endian__read__point_at(l15, l23);
+        l24 = (uint16_t *)(void *)&(*l8.f0);
+        l25 = (slice_uint16_t){.f0 = l24, .f1 = l8.f1};
+        l20 = book_feed__judged__answer_for(l1, l2, l3, l4, l5, l6, l7, l25, l9, l10, l11, l12, l13, l19);
+        l27 = (uint8_t *)(void *)&(*l16.f0);
+        l28 = (slice_uint8_t){.f0 = l27, .f1 = l16.f1};
+        l23 = (l18 * UINT64_C(24));
+        book_feed__adding__add_to(l28, l23, l14, l20);
+        l18 = (l18 + UINT64_C(1));
+    }
+exit0:;
+    return;
+}
+
+static INLINE void book_feed__judged__add_judged(type_sphere__point__Grid l1, slice_uint32_t l2, slice_uint32_t l3, slice_uint16_t l4, slice_uint16_t l5, slice_uint16_t l6, slice_uint16_t l7, slice_uint16_t l8, type_cones__build__Index l9, type_separation__planes__Planes l10, type_answer__Answer l11, type_sphere__point__Point l12, type_sphere__point__Point l13, uint64_t l14, slice_uint8_t l15, slice_uint8_t l16)
+{
+    if (l1.tag == 0)
+        book_feed__judged__add_judged_either((type_sphere__point__Grid){.tag = 0}, l2, l3, l4, l5, l6, l7, l8, l9, l10, l11, l12, l13, l14, l15, l16);
+    else
+        book_feed__judged__add_judged_either((type_sphere__point__Grid){.tag = 1}, l2, l3, l4, l5, l6, l7, l8, l9, l10, l11, l12, l13, l14, l15, l16);
+}
+
+static APART void book_feed__indexed__add_by_index(type_sphere__point__Grid l1, slice_uint32_t l2, slice_uint32_t l3, type_separation__planes__Planes l4, type_answer__Answer l5, type_sphere__point__Point l6, type_sphere__point__Point l7, uint64_t l8, slice_uint8_t l9, slice_uint8_t l10)
+{
+    array_uint16_t_8192 l11;
+    array_uint16_t_2048 l12;
+    array_uint16_t_1025 l13;
+    array_uint16_t_9984 l14;
+    array_uint16_t_8192 l15;
+    type_cones__build__Index l16;
+    array_uint16_t_8192 *l17;
+    slice_uint16_t l18;
+    array_uint16_t_2048 *l19;
+    slice_uint16_t l20;
+    array_uint16_t_1025 *l21;
+    slice_uint16_t l22;
+    array_uint16_t_9984 *l23;
+    slice_uint16_t l24;
+    array_uint16_t_8192 *l25;
+    slice_uint16_t l26;
+    array_uint16_t_8192 *l28;
+    slice_uint16_t l29;
+    array_uint16_t_2048 *l30;
+    slice_uint16_t l31;
+    array_uint16_t_1025 *l32;
+    slice_uint16_t l33;
+    array_uint16_t_9984 *l34;
+    slice_uint16_t l35;
+    array_uint16_t_8192 *l36;
+    slice_uint16_t l37;
+    uint8_t *l38;
+    slice_uint8_t l39;
+    for (size_t i = 0; i < 8192; i++)
+        l11.e[i] = 0;
+    for (size_t i = 0; i < 2048; i++)
+        l12.e[i] = 0;
+    for (size_t i = 0; i < 1025; i++)
+        l13.e[i] = 0;
+    for (size_t i = 0; i < 9984; i++)
+        l14.e[i] = 0;
+    for (size_t i = 0; i < 8192; i++)
+        l15.e[i] = 0;
+    l17 = (array_uint16_t_8192 *)(void *)&l11;
+    l18 = (slice_uint16_t){.f0 = (uint16_t *)(void *)l17, .f1 = UINT64_C(8192)};
+    l19 = (array_uint16_t_2048 *)(void *)&l12;
+    l20 = (slice_uint16_t){.f0 = (uint16_t *)(void *)l19, .f1 = UINT64_C(2048)};
+    l21 = (array_uint16_t_1025 *)(void *)&l13;
+    l22 = (slice_uint16_t){.f0 = (uint16_t *)(void *)l21, .f1 = UINT64_C(1025)};
+    l23 = (array_uint16_t_9984 *)(void *)&l14;
+    l24 = (slice_uint16_t){.f0 = (uint16_t *)(void *)l23, .f1 = UINT64_C(9984)};
+    l25 = (array_uint16_t_8192 *)(void *)&l15;
+    l26 = (slice_uint16_t){.f0 = (uint16_t *)(void *)l25, .f1 = UINT64_C(8192)};
+    l16 = cones__build__build(l1, l2, l6, l18, l20, l22, l24, l26);
+    l28 = (array_uint16_t_8192 *)(void *)&l11;
+    l29 = (slice_uint16_t){.f0 = (uint16_t *)(void *)l28, .f1 = UINT64_C(8192)};
+    l30 = (array_uint16_t_2048 *)(void *)&l12;
+    l31 = (slice_uint16_t){.f0 = (uint16_t *)(void *)l30, .f1 = UINT64_C(2048)};
+    l32 = (array_uint16_t_1025 *)(void *)&l13;
+    l33 = (slice_uint16_t){.f0 = (uint16_t *)(void *)l32, .f1 = UINT64_C(1025)};
+    l34 = (array_uint16_t_9984 *)(void *)&l14;
+    l35 = (slice_uint16_t){.f0 = (uint16_t *)(void *)l34, .f1 = UINT64_C(9984)};
+    l36 = (array_uint16_t_8192 *)(void *)&l15;
+    l37 = (slice_uint16_t){.f0 = (uint16_t *)(void *)l36, .f1 = UINT64_C(8192)};
+    l38 = (uint8_t *)(void *)&(*l10.f0);
+    l39 = (slice_uint8_t){.f0 = l38, .f1 = l10.f1};
+    book_feed__judged__add_judged(l1, l2, l3, l29, l31, l33, l35, l37, l16, l4, l5, l6, l7, l8, l9, l39);
+    return;
+}
+
+static void book_feed__indexed__add_each(type_sphere__point__Grid l1, slice_uint32_t l2, slice_uint32_t l3, type_separation__planes__Planes l4, type_answer__Answer l5, type_sphere__point__Point l6, type_sphere__point__Point l7, uint64_t l8, slice_uint8_t l9, slice_uint8_t l10)
+{
+    array_uint16_t_1 l11;
+    array_uint16_t_1 l12;
+    bool l13;
+    type_sphere__point__Grid l14;
+    uint8_t *l15;
+    slice_uint8_t l16;
+    type_sphere__point__Grid l17;
+    uint8_t *l18;
+    slice_uint8_t l19;
+    array_uint16_t_1 *l21;
+    slice_uint16_t l22;
+    array_uint16_t_1 *l23;
+    slice_uint16_t l24;
+    array_uint16_t_1 *l25;
+    slice_uint16_t l26;
+    array_uint16_t_1 *l27;
+    slice_uint16_t l28;
+    array_uint16_t_1 *l29;
+    slice_uint16_t l30;
+    type_cones__build__Index l31;
+    uint8_t *l32;
+    slice_uint8_t l33;
+    l13 = book_feed__indexed__is_worth(l1, l2, l4, l9);
+    if (l13) {
+        switch (l1.tag) {
+        case 0: {
+            l14 = (type_sphere__point__Grid){.tag = 0};
+            l15 = (uint8_t *)(void *)&(*l10.f0);
+            l16 = (slice_uint8_t){.f0 = l15, .f1 = l10.f1};
+            book_feed__indexed__add_by_index(l14, l2, l3, l4, l5, l6, l7, l8, l9, l16);
+            return;
+            break;
+        }
+        case 1: default: {
+            l17 = (type_sphere__point__Grid){.tag = 1};
+            l18 = (uint8_t *)(void *)&(*l10.f0);
+            l19 = (slice_uint8_t){.f0 = l18, .f1 = l10.f1};
+            book_feed__indexed__add_by_index(l17, l2, l3, l4, l5, l6, l7, l8, l9, l19);
+            return;
+            break;
+        }
+        }
+    }
+    l11 = (array_uint16_t_1){.e[0] = 0};
+    l12 = (array_uint16_t_1){.e[0] = 0};
+    l21 = (array_uint16_t_1 *)(void *)&l11;
+    l22 = (slice_uint16_t){.f0 = (uint16_t *)(void *)l21, .f1 = UINT64_C(1)};
+    l23 = (array_uint16_t_1 *)(void *)&l11;
+    l24 = (slice_uint16_t){.f0 = (uint16_t *)(void *)l23, .f1 = UINT64_C(1)};
+    l25 = (array_uint16_t_1 *)(void *)&l11;
+    l26 = (slice_uint16_t){.f0 = (uint16_t *)(void *)l25, .f1 = UINT64_C(1)};
+    l27 = (array_uint16_t_1 *)(void *)&l11;
+    l28 = (slice_uint16_t){.f0 = (uint16_t *)(void *)l27, .f1 = UINT64_C(1)};
+    l29 = (array_uint16_t_1 *)(void *)&l12;
+    l30 = (slice_uint16_t){.f0 = (uint16_t *)(void *)l29, .f1 = UINT64_C(1)};
+    l31 = cones__build__no_index();
+    l32 = (uint8_t *)(void *)&(*l10.f0);
+    l33 = (slice_uint8_t){.f0 = l32, .f1 = l10.f1};
+    book_feed__judged__add_judged(l1, l2, l3, l22, l24, l26, l28, l30, l31, l4, l5, l6, l7, l8, l9, l33);
+    return;
+}
+
+static INLINE void book_feed__sheets__add_polygon(type_sphere__point__Grid l1, slice_uint32_t l2, slice_uint32_t l3, type_sphere__point__Point l4, type_sphere__point__Point l5, uint64_t l6, slice_uint8_t l7, slice_uint8_t l8)
+{
+    type_separation__planes__Planes l9;
+    type_sphere__point__Point l10;
+    type_answer__Answer l11;
+    type_judging__judge__Judgement l12;
+    type_search__walk__Mode l13;
+    uint8_t *l15;
+    slice_uint8_t l16;
+    l9 = separation__find__planes_of(l2);
+    l10 = separation__planes__away(l2);
+    l13 = (type_search__walk__Mode){.tag = 1};
+    l12 = judging__judge__judge_boxed(l1, l2, l3, l4, l5, l10, l13);
+    l11 = l12.f0;
+    l15 = (uint8_t *)(void *)&(*l8.f0);
+    l16 = (slice_uint8_t){.f0 = l15, .f1 = l8.f1};
+    book_feed__indexed__add_each(l1, l2, l3, l9, l11, l4, l5, l6, l7, l16);
+    return;
+}
+
+static INLINE void book_feed__sheets__add_opened(slice_uint8_t l1, uint64_t l2, slice_uint8_t l3, slice_uint8_t l4, slice_uint32_t l5, slice_uint32_t l6)
+{
+    type_sheet__open__Opened l7;
+    type_answer__Check l8;
+    uint32_t l9;
+    uint64_t l10;
+    type_sphere__point__Grid l11;
+    uint64_t l12;
+    uint32_t *l13;
+    slice_uint32_t l14;
+    uint32_t *l15;
+    slice_uint32_t l16;
+    type_answer__Answer l17;
+    uint8_t *l18;
+    slice_uint8_t l19;
+    uint32_t *l21;
+    slice_uint32_t l22;
+    uint32_t *l23;
+    slice_uint32_t l24;
+    uint8_t *l25;
+    slice_uint8_t l26;
+    l13 = (uint32_t *)(void *)&(*l5.f0);
+    l14 = (slice_uint32_t){.f0 = l13, .f1 = l5.f1};
+    l15 = (uint32_t *)(void *)&(*l6.f0);
+    l16 = (slice_uint32_t){.f0 = l15, .f1 = l6.f1};
+    l7 = sheet__open__open_into(l1, l14, l16);
+    l8 = l7.f0;
+    switch (l8.tag) {
+    case 0: {
+        break;
+    }
+    case 1: default: {
+        l9 = l8.s0;
+        l10 = l8.s1;
+        l17 = (type_answer__Answer){.tag = 4, .s1 = l9, .s0 = l10};
+        l18 = (uint8_t *)(void *)&(*l4.f0);
+        l19 = (slice_uint8_t){.f0 = l18, .f1 = l4.f1};
+        book_feed__adding__add_all(l3, l2, l17, l19);
+        return;
+        break;
+    }
+    }
+    l11 = l7.f1;
+    l12 = (l7.f5 * UINT64_C(3));
+    l21 = (uint32_t *)(void *)&(*l5.f0);
+    l22 = (slice_uint32_t){.f0 = l21, .f1 = l12};
+    l23 = (uint32_t *)(void *)&(*l6.f0);
+    l24 = (slice_uint32_t){.f0 = l23, .f1 = l6.f1};
+    l25 = (uint8_t *)(void *)&(*l4.f0);
+    l26 = (slice_uint8_t){.f0 = l25, .f1 = l4.f1};
+    book_feed__sheets__add_polygon(l11, l22, l24, l7.f2, l7.f3, l2, l3, l26);
+    return;
+}
+
+static APART void book_feed__sheets__add_sheet(slice_uint8_t l1, uint64_t l2, slice_uint8_t l3, slice_uint8_t l4)
+{
+    array_uint32_t_768 l5;
+    array_uint32_t_48 l6;
+    array_uint32_t_12288 l7;
+    uint64_t l8;
+    bool l9;
+    uint8_t *l10;
+    slice_uint8_t l11;
+    array_uint32_t_768 *l12;
+    slice_uint32_t l13;
+    array_uint32_t_48 *l14;
+    slice_uint32_t l15;
+    uint8_t *l17;
+    slice_uint8_t l18;
+    array_uint32_t_12288 *l19;
+    slice_uint32_t l20;
+    array_uint32_t_768 *l21;
+    slice_uint32_t l22;
+    for (size_t i = 0; i < 768; i++)
+        l5.e[i] = UINT32_C(0);
+    l8 = l1.f1;
+    l9 = (l8 <= UINT64_C(3072));
+    if (l9) {
+        for (size_t i = 0; i < 48; i++)
+            l6.e[i] = UINT32_C(0);
+        l10 = (uint8_t *)(void *)&(*l4.f0);
+        l11 = (slice_uint8_t){.f0 = l10, .f1 = l4.f1};
+        l12 = (array_uint32_t_768 *)(void *)&l5;
+        l13 = (slice_uint32_t){.f0 = (uint32_t *)(void *)l12, .f1 = UINT64_C(768)};
+        l14 = (array_uint32_t_48 *)(void *)&l6;
+        l15 = (slice_uint32_t){.f0 = (uint32_t *)(void *)l14, .f1 = UINT64_C(48)};
+        book_feed__sheets__add_opened(l1, l2, l3, l11, l13, l15);
+        return;
+    }
+    for (size_t i = 0; i < 12288; i++)
+        l7.e[i] = UINT32_C(0);
+    l17 = (uint8_t *)(void *)&(*l4.f0);
+    l18 = (slice_uint8_t){.f0 = l17, .f1 = l4.f1};
+    l19 = (array_uint32_t_12288 *)(void *)&l7;
+    l20 = (slice_uint32_t){.f0 = (uint32_t *)(void *)l19, .f1 = UINT64_C(12288)};
+    l21 = (array_uint32_t_768 *)(void *)&l5;
+    l22 = (slice_uint32_t){.f0 = (uint32_t *)(void *)l21, .f1 = UINT64_C(768)};
+    book_feed__sheets__add_opened(l1, l2, l3, l18, l20, l22);
+    return;
+}
+
+static INLINE void book_feed__sheets__add_zone(slice_uint8_t l1, uint32_t l2, uint64_t l3, slice_uint8_t l4, slice_uint8_t l5)
+{
+    uint32_t l6;
+    type_sphere__point__Grid l7;
+    bool l8;
+    type_answer__Answer l9;
+    uint8_t *l10;
+    slice_uint8_t l11;
+    uint8_t *l13;
+    slice_uint8_t l14;
+    l7 = fields__grid(l1);
+    l6 = book__which__grid_number(l7);
+    l8 = (l2 != l6);
+    if (l8) {
+        l9 = (type_answer__Answer){.tag = 4, .s1 = UINT32_C(28), .s0 = UINT64_C(0)};
+        l10 = (uint8_t *)(void *)&(*l5.f0);
+        l11 = (slice_uint8_t){.f0 = l10, .f1 = l5.f1};
+        book_feed__adding__add_all(l4, l3, l9, l11);
+        return;
+    }
+    l13 = (uint8_t *)(void *)&(*l5.f0);
+    l14 = (slice_uint8_t){.f0 = l13, .f1 = l5.f1};
+    book_feed__sheets__add_sheet(l1, l3, l4, l14);
+    return;
+}
+
+static INLINE void book_feed__sheets__add_at(slice_uint8_t l1, uint64_t l2, uint64_t l3, uint32_t l4, uint64_t l5, slice_uint8_t l6, slice_uint8_t l7)
+{
+    uint64_t l8;
+    unsigned char *l10;
+    uint64_t l11;
+    uint8_t *l12;
+    slice_uint8_t l13;
+    uint8_t *l14;
+    slice_uint8_t l15;
+    l8 = (l2 + l3);
+    l10 = ((unsigned char *)(void *)l1.f0 + (size_t)l2);
+    l11 = (l8 - l2);
+    l12 = (uint8_t *)(void *)&(*(uint8_t *)(void *)l10);
+    l13 = (slice_uint8_t){.f0 = l12, .f1 = l11};
+    l14 = (uint8_t *)(void *)&(*l7.f0);
+    l15 = (slice_uint8_t){.f0 = l14, .f1 = l7.f1};
+    book_feed__sheets__add_zone(l13, l4, l5, l6, l15);
+    return;
+}
+
+static void book_feed__whole__fill(slice_uint8_t l1, uint32_t l2, slice_uint8_t l3, slice_uint8_t l4)
+{
+    uint64_t l5;
+    uint64_t l6;
+    uint64_t l7;
+    uint8_t *l9;
+    slice_uint8_t l10;
+    bool l11;
+    type_book__step__Step l12;
+    uint8_t *l14;
+    slice_uint8_t l15;
+    l9 = (uint8_t *)(void *)&(*l4.f0);
+    l10 = (slice_uint8_t){.f0 = l9, .f1 = l4.f1};
+    book_feed__whole__clear(l3, l10);
+    l5 = UINT64_C(0);
+    l6 = UINT64_C(0);
+    for (;;) {
+        l11 = (l6 < UINT64_C(64));
+        if (l11) {
+        } else {
+            goto exit0;
+        }
+        l12 = book__step__step_at(l1, l5);
+        switch (l12.tag) {
+        case 0: {
+            l7 = l12.s1;
+            l14 = (uint8_t *)(void *)&(*l4.f0);
+            l15 = (slice_uint8_t){.f0 = l14, .f1 = l4.f1};
+            book_feed__sheets__add_at(l1, l5, l7, l2, l6, l3, l15);
+            l5 = (l5 + l7);
+            break;
+        }
+        case 1: {
+            return;
+            break;
+        }
+        case 2: default: {
+            return;
+            break;
+        }
+        }
+        l6 = (l6 + UINT64_C(1));
+    }
+exit0:;
+    return;
+}
+
+static INLINE type_answer__Answer book_feed__whole__book_feed(slice_uint8_t l1, uint32_t l2, slice_uint8_t l3, slice_uint8_t l4)
+{
+    type_answer__Answer l0;
+    uint32_t l5;
+    uint64_t l6;
+    type_answer__Check l7;
+    uint64_t l8;
+    uint8_t *l10;
+    slice_uint8_t l11;
+    l8 = l4.f1;
+    l7 = book_feed__whole__feed_check(l1, l3, l8);
+    switch (l7.tag) {
+    case 0: {
+        break;
+    }
+    case 1: default: {
+        l5 = l7.s0;
+        l6 = l7.s1;
+        l0 = (type_answer__Answer){.tag = 4, .s1 = l5, .s0 = l6};
+        return l0;
+        break;
+    }
+    }
+    l10 = (uint8_t *)(void *)&(*l4.f0);
+    l11 = (slice_uint8_t){.f0 = l10, .f1 = l4.f1};
+    book_feed__whole__fill(l1, l2, l3, l11);
+    l0 = (type_answer__Answer){.tag = 0, .s0 = UINT64_C(0)};
+    return l0;
+}
+
+static INLINE uint32_t spargolutta_books__spg_book_feed_number(slice_uint8_t l1, uint32_t l2, slice_uint8_t l3, slice_uint8_t l4)
+{
+    uint32_t l0;
+    type_answer__Answer l5;
+    uint8_t *l6;
+    slice_uint8_t l7;
+    l6 = (uint8_t *)(void *)&(*l4.f0);
+    l7 = (slice_uint8_t){.f0 = l6, .f1 = l4.f1};
+    l5 = book_feed__whole__book_feed(l1, l2, l3, l7);
+    l0 = answer__number(l5);
+    return l0;
+}
+
+static INLINE type_answer__Answer book_feed__whole__feed_answer(slice_uint8_t l1, slice_uint8_t l2, uint64_t l3)
+{
+    type_answer__Answer l0;
+    uint32_t l4;
+    uint64_t l5;
+    type_answer__Check l6;
+    type_answer__Answer l7;
+    l6 = book_feed__whole__feed_check(l1, l2, l3);
+    switch (l6.tag) {
+    case 0: {
+        l7 = (type_answer__Answer){.tag = 0, .s0 = UINT64_C(0)};
+        break;
+    }
+    case 1: default: {
+        l4 = l6.s0;
+        l5 = l6.s1;
+        l7 = (type_answer__Answer){.tag = 4, .s1 = l4, .s0 = l5};
+        break;
+    }
+    }
+    l0 = l7;
+    return l0;
+}
+
+static INLINE uint64_t spargolutta_books__spg_book_feed_place(slice_uint8_t l1, uint32_t l2, slice_uint8_t l3, uint64_t l4)
+{
+    uint64_t l0;
+    type_answer__Answer l5;
+    (void)l2;
+    l5 = book_feed__whole__feed_answer(l1, l3, l4);
+    l0 = answer__place(l5);
+    return l0;
+}
+
+static INLINE uint32_t spargolutta_books__spg_book_feed_count(slice_uint8_t l1, uint32_t l2, slice_uint8_t l3, uint64_t l4)
+{
+    uint32_t l0;
+    type_answer__Answer l5;
+    (void)l2;
+    l5 = book_feed__whole__feed_answer(l1, l3, l4);
+    l0 = answer__count(l5);
+    return l0;
+}
+
 static INLINE type_book__step__Step book__reader__look(type_book__reader__Reader l1)
 {
     type_book__step__Step l0;
@@ -7682,9 +9390,6 @@ static INLINE type_sheet__read__Sheet sheet__read__accepted(slice_uint8_t l1, ty
     uint32_t l9;
     uint64_t l10;
     uint64_t l11;
-    uint32_t l12;
-    uint64_t l13;
-    uint64_t l14;
     l3 = l2.f1;
     l4 = l2.f2;
     l5 = l2.f3;
@@ -7694,10 +9399,7 @@ static INLINE type_sheet__read__Sheet sheet__read__accepted(slice_uint8_t l1, ty
     l10 = (UINT64_C(7) + UINT64_C(3));
     l9 = big_endian__read__byte_at(l1, l10);
     l11 = (UINT64_C(11) + UINT64_C(3));
-    l13 = (UINT64_C(11) + UINT64_C(1));
-    l12 = big_endian__read__short_at(l1, l13);
-    l14 = (uint64_t)l12;
-    l0 = (type_sheet__read__Sheet){.f0 = l7, .f1 = l8, .f2 = l9, .f3 = l11, .f4 = l14, .f5 = l4, .f6 = l2.f4, .f7 = l5, .f8 = l3};
+    l0 = (type_sheet__read__Sheet){.f0 = l7, .f1 = l8, .f2 = l9, .f3 = l11, .f4 = l2.f6, .f5 = l4, .f6 = l2.f5, .f7 = l5, .f8 = l3};
     return l0;
 }
 
@@ -7752,23 +9454,30 @@ static INLINE type_compare__Comparison compare__refused(uint32_t l1, uint64_t l2
     return l0;
 }
 
-static INLINE slice_uint8_t compare__differences__ring_in(slice_uint8_t l1, uint64_t l2)
+static INLINE slice_uint8_t sheet__open__vertices_in(slice_uint8_t l1, uint64_t l2, uint64_t l3)
 {
     slice_uint8_t l0;
-    uint64_t l3;
     uint64_t l4;
     uint64_t l5;
-    unsigned char *l6;
-    uint64_t l7;
-    uint8_t *l8;
-    l4 = fields__vertices_start(l1);
-    l3 = (l4 + UINT64_C(3));
-    l4 = (l2 * UINT64_C(12));
-    l5 = (l3 + l4);
-    l6 = ((unsigned char *)(void *)l1.f0 + (size_t)l3);
-    l7 = (l5 - l3);
-    l8 = (uint8_t *)(void *)&(*(uint8_t *)(void *)l6);
-    l0 = (slice_uint8_t){.f0 = l8, .f1 = l7};
+    uint64_t l6;
+    unsigned char *l7;
+    uint64_t l8;
+    uint8_t *l9;
+    l5 = (UINT64_C(11) + UINT64_C(21));
+    l4 = (l5 + l2);
+    l5 = (l3 * UINT64_C(12));
+    l6 = (l4 + l5);
+    l7 = ((unsigned char *)(void *)l1.f0 + (size_t)l4);
+    l8 = (l6 - l4);
+    l9 = (uint8_t *)(void *)&(*(uint8_t *)(void *)l7);
+    l0 = (slice_uint8_t){.f0 = l9, .f1 = l8};
+    return l0;
+}
+
+static INLINE slice_uint8_t compare__differences__ring_in(slice_uint8_t l1, uint64_t l2, uint64_t l3)
+{
+    slice_uint8_t l0;
+    l0 = sheet__open__vertices_in(l1, l2, l3);
     return l0;
 }
 
@@ -8219,8 +9928,8 @@ static type_compare__Comparison compare__compare_read(slice_uint8_t l1, slice_ui
     uint64_t l10;
     uint32_t l11;
     uint32_t l12;
-    l8 = compare__differences__ring_in(l1, l3.f6);
-    l9 = compare__differences__ring_in(l2, l4.f6);
+    l8 = compare__differences__ring_in(l1, l3.f4, l3.f6);
+    l9 = compare__differences__ring_in(l2, l4.f4, l4.f6);
     l5 = compare__ring__place_ring(l8, l9);
     l6 = compare__differences__all_differences(l1, l2, l3, l4, l5);
     l7 = l6.f0;
@@ -8841,6 +10550,24 @@ static INLINE uint64_t angles__pair__arc_of(type_sphere__point__Grid l1, uint64_
     return l0;
 }
 
+static INLINE uint64_t angles__series__raised(type_sphere__point__Grid l1, uint64_t l2)
+{
+    uint64_t l0;
+    uint64_t l3;
+    switch (l1.tag) {
+    case 0: {
+        l3 = (l2 << 5);
+        break;
+    }
+    case 1: default: {
+        l3 = l2;
+        break;
+    }
+    }
+    l0 = l3;
+    return l0;
+}
+
 static INLINE uint64_t angles__pair__square_of(type_sphere__point__Grid l1, uint64_t l2)
 {
     uint64_t l0;
@@ -8883,24 +10610,6 @@ static INLINE uint64_t angles__series__one(type_sphere__point__Grid l1)
     return l0;
 }
 
-static INLINE uint64_t angles__series__units(type_sphere__point__Grid l1, uint64_t l2)
-{
-    uint64_t l0;
-    uint64_t l3;
-    switch (l1.tag) {
-    case 0: {
-        l3 = (l2 / UINT64_C(67108864));
-        break;
-    }
-    case 1: default: {
-        l3 = (l2 / UINT64_C(2147483648));
-        break;
-    }
-    }
-    l0 = l3;
-    return l0;
-}
-
 static INLINE uint64_t angles__series__rest(type_sphere__point__Grid l1, uint64_t l2, uint64_t l3, uint64_t l4)
 {
     uint64_t l0;
@@ -8909,10 +10618,10 @@ static INLINE uint64_t angles__series__rest(type_sphere__point__Grid l1, uint64_
     uint64_t l7;
     uint64_t l8;
     l5 = angles__series__one(l1);
-    l7 = (l2 * l3);
-    l8 = (l7 / l4);
-    l6 = angles__series__units(l1, l8);
-    l0 = (l5 - l6);
+    l6 = (l2 * l3);
+    l7 = (l6 / l4);
+    l8 = (l7 / UINT64_C(2147483648));
+    l0 = (l5 - l8);
     return l0;
 }
 
@@ -8939,7 +10648,7 @@ static INLINE uint64_t angles__series__last(type_sphere__point__Grid l1, uint64_
     l4 = angles__series__one(l1);
     l6 = (l2 * l3);
     l7 = (l6 / UINT64_C(2));
-    l5 = angles__series__units(l1, l7);
+    l5 = (l7 / UINT64_C(2147483648));
     l8 = (l5 < l4);
     if (l8) {
         l9 = (l4 - l5);
@@ -8954,7 +10663,7 @@ static INLINE type_angles__series__Terms angles__series__series(type_sphere__poi
 {
     type_angles__series__Terms l0;
     uint64_t l3;
-    type_angles__series__Terms l4;
+    uint64_t l4;
     type_angles__series__Terms l5;
     type_angles__series__Terms l6;
     type_angles__series__Terms l7;
@@ -8962,22 +10671,24 @@ static INLINE type_angles__series__Terms angles__series__series(type_sphere__poi
     type_angles__series__Terms l9;
     type_angles__series__Terms l10;
     type_angles__series__Terms l11;
-    uint64_t l12;
+    type_angles__series__Terms l12;
     uint64_t l13;
-    type_angles__series__Terms l14;
-    l3 = angles__series__one(l1);
-    l14 = (type_angles__series__Terms){.f0 = l3, .f1 = l3};
-    l4 = angles__series__both(l1, l2, l14, UINT64_C(342), UINT64_C(306));
-    l5 = angles__series__both(l1, l2, l4, UINT64_C(272), UINT64_C(240));
-    l6 = angles__series__both(l1, l2, l5, UINT64_C(210), UINT64_C(182));
-    l7 = angles__series__both(l1, l2, l6, UINT64_C(156), UINT64_C(132));
-    l8 = angles__series__both(l1, l2, l7, UINT64_C(110), UINT64_C(90));
-    l9 = angles__series__both(l1, l2, l8, UINT64_C(72), UINT64_C(56));
-    l10 = angles__series__both(l1, l2, l9, UINT64_C(42), UINT64_C(30));
-    l11 = angles__series__both(l1, l2, l10, UINT64_C(20), UINT64_C(12));
-    l12 = angles__series__rest(l1, l2, l11.f0, UINT64_C(6));
-    l13 = angles__series__last(l1, l2, l11.f1);
-    l0 = (type_angles__series__Terms){.f0 = l12, .f1 = l13};
+    uint64_t l14;
+    type_angles__series__Terms l15;
+    l3 = angles__series__raised(l1, l2);
+    l4 = angles__series__one(l1);
+    l15 = (type_angles__series__Terms){.f0 = l4, .f1 = l4};
+    l5 = angles__series__both(l1, l3, l15, UINT64_C(342), UINT64_C(306));
+    l6 = angles__series__both(l1, l3, l5, UINT64_C(272), UINT64_C(240));
+    l7 = angles__series__both(l1, l3, l6, UINT64_C(210), UINT64_C(182));
+    l8 = angles__series__both(l1, l3, l7, UINT64_C(156), UINT64_C(132));
+    l9 = angles__series__both(l1, l3, l8, UINT64_C(110), UINT64_C(90));
+    l10 = angles__series__both(l1, l3, l9, UINT64_C(72), UINT64_C(56));
+    l11 = angles__series__both(l1, l3, l10, UINT64_C(42), UINT64_C(30));
+    l12 = angles__series__both(l1, l3, l11, UINT64_C(20), UINT64_C(12));
+    l13 = angles__series__rest(l1, l3, l12.f0, UINT64_C(6));
+    l14 = angles__series__last(l1, l3, l12.f1);
+    l0 = (type_angles__series__Terms){.f0 = l13, .f1 = l14};
     return l0;
 }
 
@@ -9003,7 +10714,7 @@ static INLINE double angles__pair__unit(type_sphere__point__Grid l1, uint64_t l2
     return l0;
 }
 
-static type_angles__pair__SinCos angles__pair__sin_cos(type_sphere__point__Grid l1, uint64_t l2)
+static INLINE type_angles__pair__SinCos angles__pair__sin_cos(type_sphere__point__Grid l1, uint64_t l2)
 {
     type_angles__pair__SinCos l0;
     uint64_t l3;
@@ -9016,11 +10727,12 @@ static type_angles__pair__SinCos angles__pair__sin_cos(type_sphere__point__Grid 
     double l10;
     l6 = (l2 < UINT64_C(900000000));
     if (l6) {
-        l3 = angles__pair__arc_of(l1, l2);
+        l8 = angles__pair__arc_of(l1, l2);
+        l3 = angles__series__raised(l1, l8);
         l8 = angles__pair__square_of(l1, l2);
         l4 = angles__series__series(l1, l8);
         l8 = (l3 * l4.f0);
-        l5 = angles__series__units(l1, l8);
+        l5 = (l8 / UINT64_C(2147483648));
         l9 = angles__pair__unit(l1, l5);
         l10 = angles__pair__unit(l1, l4.f1);
         l7 = (type_angles__pair__SinCos){.f0 = l9, .f1 = l10};
@@ -9107,7 +10819,7 @@ static INLINE uint64_t angles__pair__product(type_sphere__point__Grid l1, double
     return l0;
 }
 
-static INLINE type_angles__point__GridNumbers angles__point__in_range(type_sphere__point__Grid l1, bool l2, uint64_t l3, bool l4, uint64_t l5)
+static type_angles__point__GridNumbers angles__point__in_range(type_sphere__point__Grid l1, bool l2, uint64_t l3, bool l4, uint64_t l5)
 {
     type_angles__point__GridNumbers l0;
     type_angles__pair__SinCos l6;
@@ -9158,46 +10870,37 @@ static INLINE type_angles__point__GridNumbers angles__point__numbers_on(type_sph
     return l0;
 }
 
-static INLINE type_angles__point__GridNumbers angles__point__grid_numbers(type_angles__point__Position l1)
+static INLINE void geojson__scan__put(type_sphere__point__Grid l1, slice_uint32_t l2, uint64_t l3, type_angles__point__Position l4)
 {
-    type_angles__point__GridNumbers l0;
-    type_sphere__point__Grid l2;
-    l2 = (type_sphere__point__Grid){.tag = 0};
-    l0 = angles__point__numbers_on(l2, l1);
-    return l0;
-}
-
-static INLINE void geojson__scan__put(slice_uint32_t l1, uint64_t l2, type_angles__point__Position l3)
-{
-    uint32_t l4;
     uint32_t l5;
     uint32_t l6;
-    uint64_t l7;
-    bool l8;
-    type_angles__point__GridNumbers l9;
-    uint64_t l10;
-    unsigned char *l11;
-    uint64_t l12;
-    unsigned char *l13;
+    uint32_t l7;
+    uint64_t l8;
+    bool l9;
+    type_angles__point__GridNumbers l10;
+    uint64_t l11;
+    unsigned char *l12;
+    uint64_t l13;
     unsigned char *l14;
-    l8 = (l2 < UINT64_C(4097));
-    if (l8) {
-        l9 = angles__point__grid_numbers(l3);
-        l4 = l9.f0;
-        l5 = l9.f1;
-        l6 = l9.f2;
-        l7 = (l2 * UINT64_C(3));
-        l10 = (l7 << 2);
-        l11 = ((unsigned char *)(void *)l1.f0 + (size_t)l10);
-        (*(uint32_t *)(void *)l11) = l4;
-        l10 = (l7 + UINT64_C(1));
-        l12 = (l10 << 2);
-        l13 = ((unsigned char *)(void *)l1.f0 + (size_t)l12);
-        (*(uint32_t *)(void *)l13) = l5;
-        l10 = (l7 + UINT64_C(2));
-        l12 = (l10 << 2);
-        l14 = ((unsigned char *)(void *)l1.f0 + (size_t)l12);
+    unsigned char *l15;
+    l9 = (l3 < UINT64_C(4097));
+    if (l9) {
+        l10 = angles__point__numbers_on(l1, l4);
+        l5 = l10.f0;
+        l6 = l10.f1;
+        l7 = l10.f2;
+        l8 = (l3 * UINT64_C(3));
+        l11 = (l8 << 2);
+        l12 = ((unsigned char *)(void *)l2.f0 + (size_t)l11);
+        (*(uint32_t *)(void *)l12) = l5;
+        l11 = (l8 + UINT64_C(1));
+        l13 = (l11 << 2);
+        l14 = ((unsigned char *)(void *)l2.f0 + (size_t)l13);
         (*(uint32_t *)(void *)l14) = l6;
+        l11 = (l8 + UINT64_C(2));
+        l13 = (l11 << 2);
+        l15 = ((unsigned char *)(void *)l2.f0 + (size_t)l13);
+        (*(uint32_t *)(void *)l15) = l7;
     }
     return;
 }
@@ -9295,41 +10998,41 @@ static INLINE type_positions__ring__Ring positions__ring__added(type_positions__
     return l0;
 }
 
-static type_geojson__scan__Reader geojson__scan__step(type_geojson__scan__Reader l1, uint8_t l2, slice_uint32_t l3)
+static INLINE type_geojson__scan__Reader geojson__scan__step(type_sphere__point__Grid l1, type_geojson__scan__Reader l2, uint8_t l3, slice_uint32_t l4)
 {
     type_geojson__scan__Reader l0;
-    type_positions__number__Pending l4;
-    type_positions__ring__Ring l5;
-    type_positions__number__Pending l6;
-    type_angles__point__Position l7;
-    type_positions__ring__Ring l8;
-    type_positions__number__Pending l9;
+    type_positions__number__Pending l5;
+    type_positions__ring__Ring l6;
+    type_positions__number__Pending l7;
+    type_angles__point__Position l8;
+    type_positions__ring__Ring l9;
     type_positions__number__Pending l10;
-    bool l11;
+    type_positions__number__Pending l11;
     bool l12;
-    uint32_t *l14;
-    slice_uint32_t l15;
-    l4 = l1.f0;
-    l5 = l1.f1;
-    l11 = positions__number__is_digit(l2);
-    if (l11) {
-        l6 = positions__number__next(l4, l2);
-        l0 = (type_geojson__scan__Reader){.f0 = l6, .f1 = l5};
-        return l0;
-    }
-    l12 = positions__number__ends(l4, l2);
+    bool l13;
+    uint32_t *l15;
+    slice_uint32_t l16;
+    l5 = l2.f0;
+    l6 = l2.f1;
+    l12 = positions__number__is_digit(l3);
     if (l12) {
-        l7 = positions__number__whole(l4);
-        l14 = (uint32_t *)(void *)&(*l3.f0);
-        l15 = (slice_uint32_t){.f0 = l14, .f1 = l3.f1};
-        geojson__scan__put(l15, l5.f0, l7);
-        l8 = positions__ring__added(l5, l7);
-        l9 = (type_positions__number__Pending){.f0 = UINT64_C(0), .f1 = UINT64_C(0), .f2 = UINT32_C(0), .f3 = false, .f4 = false};
-        l0 = (type_geojson__scan__Reader){.f0 = l9, .f1 = l8};
+        l7 = positions__number__next(l5, l3);
+        l0 = (type_geojson__scan__Reader){.f0 = l7, .f1 = l6};
         return l0;
     }
-    l10 = positions__number__next(l4, l2);
-    l0 = (type_geojson__scan__Reader){.f0 = l10, .f1 = l5};
+    l13 = positions__number__ends(l5, l3);
+    if (l13) {
+        l8 = positions__number__whole(l5);
+        l15 = (uint32_t *)(void *)&(*l4.f0);
+        l16 = (slice_uint32_t){.f0 = l15, .f1 = l4.f1};
+        geojson__scan__put(l1, l16, l6.f0, l8);
+        l9 = positions__ring__added(l6, l8);
+        l10 = (type_positions__number__Pending){.f0 = UINT64_C(0), .f1 = UINT64_C(0), .f2 = UINT32_C(0), .f3 = false, .f4 = false};
+        l0 = (type_geojson__scan__Reader){.f0 = l10, .f1 = l9};
+        return l0;
+    }
+    l11 = positions__number__next(l5, l3);
+    l0 = (type_geojson__scan__Reader){.f0 = l11, .f1 = l6};
     return l0;
 }
 
@@ -9555,94 +11258,99 @@ static INLINE type_geojson__scan__Scanned geojson__scan__finish(type_geojson__sc
     return l0;
 }
 
-static type_geojson__scan__Scanned geojson__scan__scan_with(array_uint64_t_256 *l1, array_uint64_t_261 *l2, slice_uint8_t l3, slice_uint32_t l4)
+static INLINE type_geojson__scan__Scanned geojson__scan__scan_with_either(array_uint64_t_256 *l1, array_uint64_t_261 *l2, type_sphere__point__Grid l3, slice_uint8_t l4, slice_uint32_t l5)
 {
     type_geojson__scan__Scanned l0;
-    type_positions__grammar__State l5;
-    type_geojson__scan__Reader l6;
-    uint64_t l7;
-    uint8_t l8;
-    uint64_t l9;
+    type_positions__grammar__State l6;
+    type_geojson__scan__Reader l7;
+    uint64_t l8;
+    uint8_t l9;
     uint64_t l10;
-    type_positions__grammar__State l11;
-    type_positions__number__Pending l12;
-    uint64_t l13;
+    uint64_t l11;
+    type_positions__grammar__State l12;
+    type_positions__number__Pending l13;
     uint64_t l14;
-    bool l15;
-    unsigned char *l16;
-    uint8_t l17;
-    uint32_t *l18;
-    slice_uint32_t l19;
-    type_geojson__ahead__Reached l20;
-    bool l21;
-    l5 = (type_positions__grammar__State){.f0 = UINT64_C(0), .f1 = UINT64_C(0)};
-    l6 = geojson__scan__start();
-    l7 = UINT64_C(0);
+    uint64_t l15;
+    bool l16;
+    unsigned char *l17;
+    uint8_t l18;
+    uint32_t *l19;
+    slice_uint32_t l20;
+    type_geojson__ahead__Reached l21;
+    bool l22;
+    l6 = (type_positions__grammar__State){.f0 = UINT64_C(0), .f1 = UINT64_C(0)};
+    l7 = geojson__scan__start();
+    l8 = UINT64_C(0);
     for (;;) {
-        l14 = l3.f1;
-        l15 = (l7 < l14);
-        if (l15) {
+        l15 = l4.f1;
+        l16 = (l8 < l15);
+        if (l16) {
         } else {
             goto exit0;
         }
-        l16 = ((unsigned char *)(void *)l3.f0 + (size_t)l7);
-        l17 = (*(uint8_t *)(void *)l16);
-        l8 = l17;
-        l5 = positions__grammar__next(l1, l2, l5, l8);
-        l9 = l5.f0;
-        l15 = (l9 == UINT64_C(76));
-        if (l15) {
-            l0 = (type_geojson__scan__Scanned){.tag = 1, .s1 = UINT32_C(30), .s0 = l7};
+        l17 = ((unsigned char *)(void *)l4.f0 + (size_t)l8);
+        l18 = (*(uint8_t *)(void *)l17);
+        l9 = l18;
+        l6 = positions__grammar__next(l1, l2, l6, l9);
+        l10 = l6.f0;
+        l16 = (l10 == UINT64_C(76));
+        if (l16) {
+            l0 = (type_geojson__scan__Scanned){.tag = 1, .s1 = UINT32_C(30), .s0 = l8};
             return l0;
         }
-        l18 = (uint32_t *)(void *)&(*l4.f0);
-        l19 = (slice_uint32_t){.f0 = l18, .f1 = l4.f1};
-        l6 = geojson__scan__step(l6, l8, l19);
-        l14 = (l7 + UINT64_C(1));
-        l20 = geojson__ahead__ahead(l3, l14, l5, l6.f0);
-        l10 = l20.f0;
-        l11 = l20.f1;
-        l12 = l20.f2;
-        l5 = l11;
-        l6 = geojson__scan__resumed(l6, l12);
-        l7 = l10;
+        l19 = (uint32_t *)(void *)&(*l5.f0);
+        l20 = (slice_uint32_t){.f0 = l19, .f1 = l5.f1};
+        l7 = geojson__scan__step(l3, l7, l9, l20);
+        l15 = (l8 + UINT64_C(1));
+        l21 = geojson__ahead__ahead(l4, l15, l6, l7.f0);
+        l11 = l21.f0;
+        l12 = l21.f1;
+        l13 = l21.f2;
+        l6 = l12;
+        l7 = geojson__scan__resumed(l7, l13);
+        l8 = l11;
     }
 exit0:;
-    l13 = l5.f0;
-    l21 = (l13 == UINT64_C(37));
-    if (l21) {
-        l0 = geojson__scan__finish(l6);
+    l14 = l6.f0;
+    l22 = (l14 == UINT64_C(37));
+    if (l22) {
+        l0 = geojson__scan__finish(l7);
         return l0;
     }
-    l21 = (l13 == UINT64_C(75));
-    if (l21) {
-        l0 = geojson__scan__finish(l6);
+    l22 = (l14 == UINT64_C(75));
+    if (l22) {
+        l0 = geojson__scan__finish(l7);
         return l0;
     }
-    l0 = (type_geojson__scan__Scanned){.tag = 1, .s1 = UINT32_C(30), .s0 = l7};
+    l0 = (type_geojson__scan__Scanned){.tag = 1, .s1 = UINT32_C(30), .s0 = l8};
     return l0;
 }
 
-static APART type_geojson__scan__Scanned geojson__scan__scan(slice_uint8_t l1, slice_uint32_t l2)
+static type_geojson__scan__Scanned geojson__scan__scan_with(array_uint64_t_256 *l1, array_uint64_t_261 *l2, type_sphere__point__Grid l3, slice_uint8_t l4, slice_uint32_t l5)
+{
+    return l3.tag == 0 ? geojson__scan__scan_with_either(l1, l2, (type_sphere__point__Grid){.tag = 0}, l4, l5) : geojson__scan__scan_with_either(l1, l2, (type_sphere__point__Grid){.tag = 1}, l4, l5);
+}
+
+static APART type_geojson__scan__Scanned geojson__scan__scan(type_sphere__point__Grid l1, slice_uint8_t l2, slice_uint32_t l3)
 {
     type_geojson__scan__Scanned l0;
-    array_uint64_t_256 l3;
-    array_uint64_t_261 l4;
-    array_uint64_t_256 l5;
-    array_uint64_t_261 l6;
-    array_uint64_t_256 *l7;
-    array_uint64_t_261 *l8;
-    uint32_t *l9;
-    slice_uint32_t l10;
-    l5 = positions__grammar__class_table();
-    l3 = l5;
-    l6 = positions__grammar__ring_table();
+    array_uint64_t_256 l4;
+    array_uint64_t_261 l5;
+    array_uint64_t_256 l6;
+    array_uint64_t_261 l7;
+    array_uint64_t_256 *l8;
+    array_uint64_t_261 *l9;
+    uint32_t *l10;
+    slice_uint32_t l11;
+    l6 = positions__grammar__class_table();
     l4 = l6;
-    l7 = (array_uint64_t_256 *)(void *)&l3;
-    l8 = (array_uint64_t_261 *)(void *)&l4;
-    l9 = (uint32_t *)(void *)&(*l2.f0);
-    l10 = (slice_uint32_t){.f0 = l9, .f1 = l2.f1};
-    l0 = geojson__scan__scan_with(l7, l8, l1, l10);
+    l7 = positions__grammar__ring_table();
+    l5 = l7;
+    l8 = (array_uint64_t_256 *)(void *)&l4;
+    l9 = (array_uint64_t_261 *)(void *)&l5;
+    l10 = (uint32_t *)(void *)&(*l3.f0);
+    l11 = (slice_uint32_t){.f0 = l10, .f1 = l3.f1};
+    l0 = geojson__scan__scan_with(l8, l9, l1, l2, l11);
     return l0;
 }
 
@@ -9661,12 +11369,10 @@ static INLINE uint64_t geojson__import__list_size(uint64_t l1)
     return l0;
 }
 
-static INLINE type_sphere__point__GridPoint geojson__import__on_coarse(type_sphere__point__Point l1)
+static INLINE type_sphere__point__GridPoint geojson__import__on_grid(type_sphere__point__Grid l1, type_sphere__point__Point l2)
 {
     type_sphere__point__GridPoint l0;
-    type_sphere__point__Grid l2;
-    l2 = (type_sphere__point__Grid){.tag = 0};
-    l0 = (type_sphere__point__GridPoint){.f0 = l2, .f1 = l1};
+    l0 = (type_sphere__point__GridPoint){.f0 = l1, .f1 = l2};
     return l0;
 }
 
@@ -10207,65 +11913,63 @@ static INLINE type_answer__Answer sheet__write__write(uint32_t l1, uint32_t l2, 
     return l0;
 }
 
-static INLINE type_answer__Answer geojson__import__write_coarse(uint32_t l1, uint32_t l2, slice_uint8_t l3, type_sphere__point__Point l4, slice_uint32_t l5, slice_uint8_t l6)
+static INLINE type_answer__Answer geojson__import__write_plain(type_sphere__point__Grid l1, uint32_t l2, uint32_t l3, slice_uint8_t l4, type_sphere__point__Point l5, slice_uint32_t l6, slice_uint8_t l7)
 {
     type_answer__Answer l0;
-    type_sphere__point__GridPoint l7;
     type_sphere__point__GridPoint l8;
-    type_sphere__point__Point l9;
-    type_sphere__point__Grid l10;
+    type_sphere__point__GridPoint l9;
+    type_sphere__point__Point l10;
     uint8_t *l11;
     slice_uint8_t l12;
-    l7 = geojson__import__on_coarse(l4);
-    l9 = (type_sphere__point__Point){.f0 = UINT64_C(0), .f1 = UINT64_C(0), .f2 = UINT64_C(0)};
-    l8 = geojson__import__on_coarse(l9);
-    l10 = (type_sphere__point__Grid){.tag = 0};
-    l11 = (uint8_t *)(void *)&(*l6.f0);
-    l12 = (slice_uint8_t){.f0 = l11, .f1 = l6.f1};
-    l0 = sheet__write__write(l1, l2, l3, l7, l10, l5, l8, l12);
+    l8 = geojson__import__on_grid(l1, l5);
+    l10 = (type_sphere__point__Point){.f0 = UINT64_C(0), .f1 = UINT64_C(0), .f2 = UINT64_C(0)};
+    l9 = geojson__import__on_grid(l1, l10);
+    l11 = (uint8_t *)(void *)&(*l7.f0);
+    l12 = (slice_uint8_t){.f0 = l11, .f1 = l7.f1};
+    l0 = sheet__write__write(l2, l3, l4, l8, l1, l6, l9, l12);
     return l0;
 }
 
-static APART type_answer__Answer geojson__import__import(slice_uint8_t l1, uint32_t l2, uint32_t l3, slice_uint8_t l4, type_sphere__point__Point l5, slice_uint8_t l6)
+static APART type_answer__Answer geojson__import__import(type_sphere__point__Grid l1, slice_uint8_t l2, uint32_t l3, uint32_t l4, slice_uint8_t l5, type_sphere__point__Point l6, slice_uint8_t l7)
 {
     type_answer__Answer l0;
-    array_uint32_t_12291 l7;
-    uint32_t l8;
-    uint64_t l9;
+    array_uint32_t_12291 l8;
+    uint32_t l9;
     uint64_t l10;
     uint64_t l11;
-    type_geojson__scan__Scanned l12;
-    array_uint32_t_12291 *l13;
-    slice_uint32_t l14;
-    type_answer__Answer l15;
-    array_uint32_t_12291 *l16;
-    slice_uint32_t l17;
-    uint8_t *l18;
-    slice_uint8_t l19;
+    uint64_t l12;
+    type_geojson__scan__Scanned l13;
+    array_uint32_t_12291 *l14;
+    slice_uint32_t l15;
+    type_answer__Answer l16;
+    array_uint32_t_12291 *l17;
+    slice_uint32_t l18;
+    uint8_t *l19;
+    slice_uint8_t l20;
     for (size_t i = 0; i < 12291; i++)
-        l7.e[i] = UINT32_C(0);
-    l13 = (array_uint32_t_12291 *)(void *)&l7;
-    l14 = (slice_uint32_t){.f0 = (uint32_t *)(void *)l13, .f1 = UINT64_C(12291)};
-    l12 = geojson__scan__scan(l1, l14);
-    switch (l12.tag) {
+        l8.e[i] = UINT32_C(0);
+    l14 = (array_uint32_t_12291 *)(void *)&l8;
+    l15 = (slice_uint32_t){.f0 = (uint32_t *)(void *)l14, .f1 = UINT64_C(12291)};
+    l13 = geojson__scan__scan(l1, l2, l15);
+    switch (l13.tag) {
     case 1: {
-        l8 = l12.s1;
-        l9 = l12.s0;
-        l15 = (type_answer__Answer){.tag = 4, .s1 = l8, .s0 = l9};
+        l9 = l13.s1;
+        l10 = l13.s0;
+        l16 = (type_answer__Answer){.tag = 4, .s1 = l9, .s0 = l10};
         break;
     }
     case 0: default: {
-        l10 = l12.s0;
-        l11 = geojson__import__list_size(l10);
-        l16 = (array_uint32_t_12291 *)(void *)&l7;
-        l17 = (slice_uint32_t){.f0 = (uint32_t *)(void *)l16, .f1 = l11};
-        l18 = (uint8_t *)(void *)&(*l6.f0);
-        l19 = (slice_uint8_t){.f0 = l18, .f1 = l6.f1};
-        l15 = geojson__import__write_coarse(l2, l3, l4, l5, l17, l19);
+        l11 = l13.s0;
+        l12 = geojson__import__list_size(l11);
+        l17 = (array_uint32_t_12291 *)(void *)&l8;
+        l18 = (slice_uint32_t){.f0 = (uint32_t *)(void *)l17, .f1 = l12};
+        l19 = (uint8_t *)(void *)&(*l7.f0);
+        l20 = (slice_uint8_t){.f0 = l19, .f1 = l7.f1};
+        l16 = geojson__import__write_plain(l1, l3, l4, l5, l6, l18, l20);
         break;
     }
     }
-    l0 = l15;
+    l0 = l16;
     return l0;
 }
 
@@ -10273,13 +11977,15 @@ static INLINE uint32_t spargolutta__imports__spg_import_number(slice_uint8_t l1,
 {
     uint32_t l0;
     type_answer__Answer l9;
-    type_sphere__point__Point l10;
-    uint8_t *l11;
-    slice_uint8_t l12;
-    l10 = spargolutta__query(l5, l6, l7);
-    l11 = (uint8_t *)(void *)&(*l8.f0);
-    l12 = (slice_uint8_t){.f0 = l11, .f1 = l8.f1};
-    l9 = geojson__import__import(l1, l2, l3, l4, l10, l12);
+    type_sphere__point__Grid l10;
+    type_sphere__point__Point l11;
+    uint8_t *l12;
+    slice_uint8_t l13;
+    l10 = (type_sphere__point__Grid){.tag = 0};
+    l11 = spargolutta__query(l5, l6, l7);
+    l12 = (uint8_t *)(void *)&(*l8.f0);
+    l13 = (slice_uint8_t){.f0 = l12, .f1 = l8.f1};
+    l9 = geojson__import__import(l10, l1, l2, l3, l4, l11, l13);
     l0 = answer__number(l9);
     return l0;
 }
@@ -10315,57 +12021,55 @@ static INLINE type_answer__Answer sheet__write__write_answer(uint32_t l1, slice_
     return l0;
 }
 
-static INLINE type_answer__Answer geojson__import__answer_coarse(uint32_t l1, slice_uint8_t l2, type_sphere__point__Point l3, slice_uint32_t l4, uint64_t l5)
+static INLINE type_answer__Answer geojson__import__answer_plain(type_sphere__point__Grid l1, uint32_t l2, slice_uint8_t l3, type_sphere__point__Point l4, slice_uint32_t l5, uint64_t l6)
 {
     type_answer__Answer l0;
-    type_sphere__point__GridPoint l6;
     type_sphere__point__GridPoint l7;
-    type_sphere__point__Point l8;
-    type_sphere__point__Grid l9;
-    l6 = geojson__import__on_coarse(l3);
-    l8 = (type_sphere__point__Point){.f0 = UINT64_C(0), .f1 = UINT64_C(0), .f2 = UINT64_C(0)};
-    l7 = geojson__import__on_coarse(l8);
-    l9 = (type_sphere__point__Grid){.tag = 0};
-    l0 = sheet__write__write_answer(l1, l2, l6, l9, l4, l7, l5);
+    type_sphere__point__GridPoint l8;
+    type_sphere__point__Point l9;
+    l7 = geojson__import__on_grid(l1, l4);
+    l9 = (type_sphere__point__Point){.f0 = UINT64_C(0), .f1 = UINT64_C(0), .f2 = UINT64_C(0)};
+    l8 = geojson__import__on_grid(l1, l9);
+    l0 = sheet__write__write_answer(l2, l3, l7, l1, l5, l8, l6);
     return l0;
 }
 
-static APART type_answer__Answer geojson__import__import_answer(slice_uint8_t l1, uint32_t l2, slice_uint8_t l3, type_sphere__point__Point l4, uint64_t l5)
+static APART type_answer__Answer geojson__import__import_answer(type_sphere__point__Grid l1, slice_uint8_t l2, uint32_t l3, slice_uint8_t l4, type_sphere__point__Point l5, uint64_t l6)
 {
     type_answer__Answer l0;
-    array_uint32_t_12291 l6;
-    uint32_t l7;
-    uint64_t l8;
+    array_uint32_t_12291 l7;
+    uint32_t l8;
     uint64_t l9;
     uint64_t l10;
-    type_geojson__scan__Scanned l11;
-    array_uint32_t_12291 *l12;
-    slice_uint32_t l13;
-    type_answer__Answer l14;
-    array_uint32_t_12291 *l15;
-    slice_uint32_t l16;
+    uint64_t l11;
+    type_geojson__scan__Scanned l12;
+    array_uint32_t_12291 *l13;
+    slice_uint32_t l14;
+    type_answer__Answer l15;
+    array_uint32_t_12291 *l16;
+    slice_uint32_t l17;
     for (size_t i = 0; i < 12291; i++)
-        l6.e[i] = UINT32_C(0);
-    l12 = (array_uint32_t_12291 *)(void *)&l6;
-    l13 = (slice_uint32_t){.f0 = (uint32_t *)(void *)l12, .f1 = UINT64_C(12291)};
-    l11 = geojson__scan__scan(l1, l13);
-    switch (l11.tag) {
+        l7.e[i] = UINT32_C(0);
+    l13 = (array_uint32_t_12291 *)(void *)&l7;
+    l14 = (slice_uint32_t){.f0 = (uint32_t *)(void *)l13, .f1 = UINT64_C(12291)};
+    l12 = geojson__scan__scan(l1, l2, l14);
+    switch (l12.tag) {
     case 1: {
-        l7 = l11.s1;
-        l8 = l11.s0;
-        l14 = (type_answer__Answer){.tag = 4, .s1 = l7, .s0 = l8};
+        l8 = l12.s1;
+        l9 = l12.s0;
+        l15 = (type_answer__Answer){.tag = 4, .s1 = l8, .s0 = l9};
         break;
     }
     case 0: default: {
-        l9 = l11.s0;
-        l10 = geojson__import__list_size(l9);
-        l15 = (array_uint32_t_12291 *)(void *)&l6;
-        l16 = (slice_uint32_t){.f0 = (uint32_t *)(void *)l15, .f1 = l10};
-        l14 = geojson__import__answer_coarse(l2, l3, l4, l16, l5);
+        l10 = l12.s0;
+        l11 = geojson__import__list_size(l10);
+        l16 = (array_uint32_t_12291 *)(void *)&l7;
+        l17 = (slice_uint32_t){.f0 = (uint32_t *)(void *)l16, .f1 = l11};
+        l15 = geojson__import__answer_plain(l1, l3, l4, l5, l17, l6);
         break;
     }
     }
-    l0 = l14;
+    l0 = l15;
     return l0;
 }
 
@@ -10373,10 +12077,43 @@ static INLINE uint64_t spargolutta__imports__spg_import_place(slice_uint8_t l1, 
 {
     uint64_t l0;
     type_answer__Answer l9;
-    type_sphere__point__Point l10;
+    type_sphere__point__Grid l10;
+    type_sphere__point__Point l11;
     (void)l2;
-    l10 = spargolutta__query(l5, l6, l7);
-    l9 = geojson__import__import_answer(l1, l3, l4, l10, l8);
+    l10 = (type_sphere__point__Grid){.tag = 0};
+    l11 = spargolutta__query(l5, l6, l7);
+    l9 = geojson__import__import_answer(l10, l1, l3, l4, l11, l8);
+    l0 = answer__place(l9);
+    return l0;
+}
+
+static INLINE uint32_t spargolutta__imports__spg_import_fine_number(slice_uint8_t l1, uint32_t l2, uint32_t l3, slice_uint8_t l4, uint32_t l5, uint32_t l6, uint32_t l7, slice_uint8_t l8)
+{
+    uint32_t l0;
+    type_answer__Answer l9;
+    type_sphere__point__Grid l10;
+    type_sphere__point__Point l11;
+    uint8_t *l12;
+    slice_uint8_t l13;
+    l10 = (type_sphere__point__Grid){.tag = 1};
+    l11 = spargolutta__query(l5, l6, l7);
+    l12 = (uint8_t *)(void *)&(*l8.f0);
+    l13 = (slice_uint8_t){.f0 = l12, .f1 = l8.f1};
+    l9 = geojson__import__import(l10, l1, l2, l3, l4, l11, l13);
+    l0 = answer__number(l9);
+    return l0;
+}
+
+static INLINE uint64_t spargolutta__imports__spg_import_fine_place(slice_uint8_t l1, uint32_t l2, uint32_t l3, slice_uint8_t l4, uint32_t l5, uint32_t l6, uint32_t l7, uint64_t l8)
+{
+    uint64_t l0;
+    type_answer__Answer l9;
+    type_sphere__point__Grid l10;
+    type_sphere__point__Point l11;
+    (void)l2;
+    l10 = (type_sphere__point__Grid){.tag = 1};
+    l11 = spargolutta__query(l5, l6, l7);
+    l9 = geojson__import__import_answer(l10, l1, l3, l4, l11, l8);
     l0 = answer__place(l9);
     return l0;
 }
@@ -10400,6 +12137,15 @@ static INLINE uint32_t spargolutta__imports__spg_point_number(uint32_t l1, uint3
 {
     uint32_t l0;
     l0 = angles__point__point_number(l1, l2);
+    return l0;
+}
+
+static INLINE type_angles__point__GridNumbers angles__point__grid_numbers(type_angles__point__Position l1)
+{
+    type_angles__point__GridNumbers l0;
+    type_sphere__point__Grid l2;
+    l2 = (type_sphere__point__Grid){.tag = 0};
+    l0 = angles__point__numbers_on(l2, l1);
     return l0;
 }
 
@@ -10436,6 +12182,344 @@ static INLINE uint32_t spargolutta__imports__spg_point_z(uint32_t l1, uint32_t l
     type_angles__point__GridNumbers l3;
     l3 = angles__point__point_of(l1, l2);
     l0 = l3.f2;
+    return l0;
+}
+
+static INLINE uint32_t degrees__point_on_number(uint32_t l1, uint32_t l2, uint32_t l3)
+{
+    uint32_t l0;
+    bool l4;
+    l4 = (UINT32_C(1) < l3);
+    if (l4) {
+        l0 = UINT32_C(28);
+        return l0;
+    }
+    l0 = angles__point__point_number(l1, l2);
+    return l0;
+}
+
+static INLINE uint32_t spargolutta__imports__spg_point_on_number(uint32_t l1, uint32_t l2, uint32_t l3)
+{
+    uint32_t l0;
+    l0 = degrees__point_on_number(l1, l2, l3);
+    return l0;
+}
+
+static INLINE type_angles__point__GridNumbers degrees__point_on(uint32_t l1, uint32_t l2, uint32_t l3)
+{
+    type_angles__point__GridNumbers l0;
+    bool l4;
+    type_sphere__point__Grid l5;
+    type_angles__point__Position l6;
+    l4 = (UINT32_C(1) < l3);
+    if (l4) {
+        l0 = (type_angles__point__GridNumbers){.f0 = UINT32_C(0), .f1 = UINT32_C(0), .f2 = UINT32_C(0)};
+        return l0;
+    }
+    l5 = sphere__point__grid_numbered(l3);
+    l6 = (type_angles__point__Position){.f0 = l1, .f1 = l2};
+    l0 = angles__point__numbers_on(l5, l6);
+    return l0;
+}
+
+static INLINE uint32_t spargolutta__imports__spg_point_on_x(uint32_t l1, uint32_t l2, uint32_t l3)
+{
+    uint32_t l0;
+    type_angles__point__GridNumbers l4;
+    l4 = degrees__point_on(l1, l2, l3);
+    l0 = l4.f0;
+    return l0;
+}
+
+static INLINE uint32_t spargolutta__imports__spg_point_on_y(uint32_t l1, uint32_t l2, uint32_t l3)
+{
+    uint32_t l0;
+    type_angles__point__GridNumbers l4;
+    l4 = degrees__point_on(l1, l2, l3);
+    l0 = l4.f1;
+    return l0;
+}
+
+static INLINE uint32_t spargolutta__imports__spg_point_on_z(uint32_t l1, uint32_t l2, uint32_t l3)
+{
+    uint32_t l0;
+    type_angles__point__GridNumbers l4;
+    l4 = degrees__point_on(l1, l2, l3);
+    l0 = l4.f2;
+    return l0;
+}
+
+static INLINE type_answer__Check degrees__points_check(slice_uint8_t l1, uint32_t l2, uint64_t l3)
+{
+    type_answer__Check l0;
+    uint64_t l4;
+    uint64_t l5;
+    uint64_t l6;
+    bool l7;
+    l5 = l1.f1;
+    l6 = (l5 / UINT64_C(8));
+    l4 = (l6 * UINT64_C(12));
+    l5 = l1.f1;
+    l6 = (l5 % UINT64_C(8));
+    l7 = (l6 != UINT64_C(0));
+    if (l7) {
+        l0 = (type_answer__Check){.tag = 1, .s0 = UINT32_C(26), .s1 = UINT64_C(0)};
+        return l0;
+    }
+    l7 = (l3 < l4);
+    if (l7) {
+        l0 = (type_answer__Check){.tag = 1, .s0 = UINT32_C(27), .s1 = l4};
+        return l0;
+    }
+    l7 = (UINT32_C(1) < l2);
+    if (l7) {
+        l0 = (type_answer__Check){.tag = 1, .s0 = UINT32_C(28), .s1 = UINT64_C(0)};
+        return l0;
+    }
+    l0 = (type_answer__Check){.tag = 0};
+    return l0;
+}
+
+static INLINE type_angles__point__Position degrees__position_at(slice_uint8_t l1, uint64_t l2)
+{
+    type_angles__point__Position l0;
+    uint32_t l3;
+    uint32_t l4;
+    uint32_t l5;
+    uint32_t l6;
+    uint64_t l7;
+    l4 = big_endian__read__word_at(l1, l2);
+    l3 = big_endian__read__to_signed(l4);
+    l7 = (l2 + UINT64_C(4));
+    l6 = big_endian__read__word_at(l1, l7);
+    l5 = big_endian__read__to_signed(l6);
+    l0 = (type_angles__point__Position){.f0 = l3, .f1 = l5};
+    return l0;
+}
+
+static INLINE void degrees__put_numbers(slice_uint8_t l1, uint64_t l2, type_angles__point__GridNumbers l3)
+{
+    uint8_t *l5;
+    slice_uint8_t l6;
+    uint32_t l7;
+    uint8_t *l8;
+    slice_uint8_t l9;
+    uint64_t l10;
+    uint8_t *l11;
+    slice_uint8_t l12;
+    l5 = (uint8_t *)(void *)&(*l1.f0);
+    l6 = (slice_uint8_t){.f0 = l5, .f1 = l1.f1};
+    l7 = big_endian__store__to_word(l3.f0);
+    big_endian__store__put_word(l6, l2, l7);
+    l8 = (uint8_t *)(void *)&(*l1.f0);
+    l9 = (slice_uint8_t){.f0 = l8, .f1 = l1.f1};
+    l10 = (l2 + UINT64_C(4));
+    l7 = big_endian__store__to_word(l3.f1);
+    big_endian__store__put_word(l9, l10, l7);
+    l11 = (uint8_t *)(void *)&(*l1.f0);
+    l12 = (slice_uint8_t){.f0 = l11, .f1 = l1.f1};
+    l10 = (l2 + UINT64_C(8));
+    l7 = big_endian__store__to_word(l3.f2);
+    big_endian__store__put_word(l12, l10, l7);
+    return;
+}
+
+static INLINE void degrees__put_one(slice_uint8_t l1, type_sphere__point__Grid l2, uint64_t l3, slice_uint8_t l4)
+{
+    type_angles__point__GridNumbers l5;
+    type_angles__point__Position l6;
+    uint64_t l7;
+    uint8_t *l9;
+    slice_uint8_t l10;
+    l7 = (l3 << 3);
+    l6 = degrees__position_at(l1, l7);
+    l5 = angles__point__numbers_on(l2, l6);
+    l9 = (uint8_t *)(void *)&(*l4.f0);
+    l10 = (slice_uint8_t){.f0 = l9, .f1 = l4.f1};
+    l7 = (l3 * UINT64_C(12));
+    degrees__put_numbers(l10, l7, l5);
+    return;
+}
+
+static INLINE void degrees__put_all_either(slice_uint8_t l1, type_sphere__point__Grid l2, slice_uint8_t l3)
+{
+    uint64_t l4;
+    uint64_t l5;
+    uint64_t l6;
+    bool l7;
+    uint8_t *l9;
+    slice_uint8_t l10;
+    l6 = l1.f1;
+    l4 = (l6 / UINT64_C(8));
+    l5 = UINT64_C(0);
+    for (;;) {
+        l7 = (l5 < l4);
+        if (l7) {
+        } else {
+            goto exit0;
+        }
+        l9 = (uint8_t *)(void *)&(*l3.f0);
+        l10 = (slice_uint8_t){.f0 = l9, .f1 = l3.f1};
+        degrees__put_one(l1, l2, l5, l10);
+        l5 = (l5 + UINT64_C(1));
+    }
+exit0:;
+    return;
+}
+
+static INLINE void degrees__put_all(slice_uint8_t l1, type_sphere__point__Grid l2, slice_uint8_t l3)
+{
+    if (l2.tag == 0)
+        degrees__put_all_either(l1, (type_sphere__point__Grid){.tag = 0}, l3);
+    else
+        degrees__put_all_either(l1, (type_sphere__point__Grid){.tag = 1}, l3);
+}
+
+static type_answer__Answer degrees__fill_points(slice_uint8_t l1, uint32_t l2, slice_uint8_t l3)
+{
+    type_answer__Answer l0;
+    uint64_t l4;
+    uint32_t l5;
+    uint64_t l6;
+    type_answer__Check l7;
+    type_sphere__point__Grid l9;
+    uint8_t *l10;
+    slice_uint8_t l11;
+    l4 = l3.f1;
+    l7 = degrees__points_check(l1, l2, l4);
+    switch (l7.tag) {
+    case 0: {
+        break;
+    }
+    case 1: default: {
+        l5 = l7.s0;
+        l6 = l7.s1;
+        l0 = (type_answer__Answer){.tag = 4, .s1 = l5, .s0 = l6};
+        return l0;
+        break;
+    }
+    }
+    l9 = sphere__point__grid_numbered(l2);
+    l10 = (uint8_t *)(void *)&(*l3.f0);
+    l11 = (slice_uint8_t){.f0 = l10, .f1 = l3.f1};
+    degrees__put_all(l1, l9, l11);
+    l0 = (type_answer__Answer){.tag = 0, .s0 = UINT64_C(0)};
+    return l0;
+}
+
+static INLINE uint32_t spargolutta__imports__spg_points_number(slice_uint8_t l1, uint32_t l2, slice_uint8_t l3)
+{
+    uint32_t l0;
+    type_answer__Answer l4;
+    uint8_t *l5;
+    slice_uint8_t l6;
+    l5 = (uint8_t *)(void *)&(*l3.f0);
+    l6 = (slice_uint8_t){.f0 = l5, .f1 = l3.f1};
+    l4 = degrees__fill_points(l1, l2, l6);
+    l0 = answer__number(l4);
+    return l0;
+}
+
+static INLINE type_answer__Answer degrees__points_answer(slice_uint8_t l1, uint32_t l2, uint64_t l3)
+{
+    type_answer__Answer l0;
+    uint32_t l4;
+    uint64_t l5;
+    type_answer__Check l6;
+    l6 = degrees__points_check(l1, l2, l3);
+    switch (l6.tag) {
+    case 0: {
+        break;
+    }
+    case 1: default: {
+        l4 = l6.s0;
+        l5 = l6.s1;
+        l0 = (type_answer__Answer){.tag = 4, .s1 = l4, .s0 = l5};
+        return l0;
+        break;
+    }
+    }
+    l0 = (type_answer__Answer){.tag = 0, .s0 = UINT64_C(0)};
+    return l0;
+}
+
+static INLINE uint64_t spargolutta__imports__spg_points_place(slice_uint8_t l1, uint32_t l2, uint64_t l3)
+{
+    uint64_t l0;
+    type_answer__Answer l4;
+    l4 = degrees__points_answer(l1, l2, l3);
+    l0 = answer__place(l4);
+    return l0;
+}
+
+static INLINE uint64_t degrees__outside_at(slice_uint8_t l1, uint64_t l2)
+{
+    uint64_t l0;
+    bool l3;
+    type_angles__point__Position l4;
+    uint64_t l5;
+    l5 = (l2 << 3);
+    l4 = degrees__position_at(l1, l5);
+    l3 = angles__point__is_outside(l4);
+    if (l3) {
+        l0 = UINT64_C(1);
+        return l0;
+    }
+    l0 = UINT64_C(0);
+    return l0;
+}
+
+static INLINE uint64_t degrees__count_outside(slice_uint8_t l1)
+{
+    uint64_t l0;
+    uint64_t l2;
+    uint64_t l3;
+    uint64_t l4;
+    uint64_t l5;
+    bool l6;
+    uint64_t l7;
+    l5 = l1.f1;
+    l2 = (l5 / UINT64_C(8));
+    l3 = UINT64_C(0);
+    l4 = UINT64_C(0);
+    for (;;) {
+        l6 = (l4 < l2);
+        if (l6) {
+        } else {
+            goto exit0;
+        }
+        l7 = degrees__outside_at(l1, l4);
+        l3 = (l3 + l7);
+        l4 = (l4 + UINT64_C(1));
+    }
+exit0:;
+    l0 = l3;
+    return l0;
+}
+
+static INLINE uint64_t degrees__points_count(slice_uint8_t l1, uint32_t l2, uint64_t l3)
+{
+    uint64_t l0;
+    type_answer__Check l4;
+    l4 = degrees__points_check(l1, l2, l3);
+    switch (l4.tag) {
+    case 0: {
+        break;
+    }
+    case 1: default: {
+        l0 = UINT64_C(0);
+        return l0;
+        break;
+    }
+    }
+    l0 = degrees__count_outside(l1);
+    return l0;
+}
+
+static INLINE uint64_t spargolutta__imports__spg_points_count(slice_uint8_t l1, uint32_t l2, uint64_t l3)
+{
+    uint64_t l0;
+    l0 = degrees__points_count(l1, l2, l3);
     return l0;
 }
 
@@ -10499,7 +12583,7 @@ static APART type_answer__Answer spargolutta__writing__write_list(uint32_t l1, u
     slice_uint8_t l21;
     l9 = spargolutta__writing__placed(l7, l4);
     l10 = spargolutta__writing__placed(l7, l5);
-    l11 = basin__profile__grid_numbered(l7);
+    l11 = sphere__point__grid_numbered(l7);
     l14 = l6.f1;
     l12 = spargolutta__writing__list_size(l14);
     for (size_t i = 0; i < 12288; i++)
@@ -10547,7 +12631,7 @@ static APART type_answer__Answer spargolutta__writing__answer_list(uint32_t l1, 
     slice_uint32_t l18;
     l8 = spargolutta__writing__placed(l6, l3);
     l9 = spargolutta__writing__placed(l6, l4);
-    l10 = basin__profile__grid_numbered(l6);
+    l10 = sphere__point__grid_numbered(l6);
     l13 = l5.f1;
     l11 = spargolutta__writing__list_size(l13);
     for (size_t i = 0; i < 12288; i++)
@@ -10749,44 +12833,31 @@ static INLINE uint64_t spargolutta__reading__spg_sheet_vertices(slice_uint8_t l1
     return l0;
 }
 
-static INLINE uint64_t spargolutta__filling__vertex_bytes(slice_uint8_t l1)
-{
-    uint64_t l0;
-    uint32_t l2;
-    uint64_t l3;
-    uint64_t l4;
-    l3 = fields__vertices_start(l1);
-    l4 = (l3 + UINT64_C(1));
-    l2 = big_endian__read__short_at(l1, l4);
-    l0 = (uint64_t)l2;
-    return l0;
-}
-
-static INLINE type_answer__Check spargolutta__filling__fill_check(slice_uint8_t l1, uint64_t l2)
+static INLINE type_answer__Check spargolutta__filling__fill_check(type_sheet__open__Opened l1, uint64_t l2)
 {
     type_answer__Check l0;
-    uint32_t l3;
-    uint64_t l4;
+    type_answer__Check l3;
+    uint32_t l4;
     uint64_t l5;
-    type_answer__Check l6;
+    uint64_t l6;
     bool l7;
-    l6 = sheet__read__sheet_check(l1);
-    switch (l6.tag) {
+    l3 = l1.f0;
+    switch (l3.tag) {
     case 0: {
         break;
     }
     case 1: default: {
-        l3 = l6.s0;
-        l4 = l6.s1;
-        l0 = (type_answer__Check){.tag = 1, .s0 = l3, .s1 = l4};
+        l4 = l3.s0;
+        l5 = l3.s1;
+        l0 = (type_answer__Check){.tag = 1, .s0 = l4, .s1 = l5};
         return l0;
         break;
     }
     }
-    l5 = spargolutta__filling__vertex_bytes(l1);
-    l7 = (l2 < l5);
+    l6 = (l1.f5 * UINT64_C(12));
+    l7 = (l2 < l6);
     if (l7) {
-        l0 = (type_answer__Check){.tag = 1, .s0 = UINT32_C(27), .s1 = l5};
+        l0 = (type_answer__Check){.tag = 1, .s0 = UINT32_C(27), .s1 = l6};
         return l0;
     }
     l0 = (type_answer__Check){.tag = 0};
@@ -10796,40 +12867,31 @@ static INLINE type_answer__Check spargolutta__filling__fill_check(slice_uint8_t 
 static INLINE uint32_t spargolutta__filling__spg_vertices_number(slice_uint8_t l1, slice_uint8_t l2)
 {
     uint32_t l0;
-    uint32_t l3;
-    uint64_t l4;
-    uint64_t l5;
-    type_answer__Check l6;
-    uint64_t l7;
-    uint8_t *l9;
+    type_sheet__open__Opened l3;
+    uint32_t l4;
+    type_answer__Check l5;
+    uint64_t l6;
+    uint8_t *l8;
+    slice_uint8_t l9;
     slice_uint8_t l10;
-    unsigned char *l11;
-    uint8_t *l12;
-    slice_uint8_t l13;
-    l7 = l2.f1;
-    l6 = spargolutta__filling__fill_check(l1, l7);
-    switch (l6.tag) {
+    l3 = sheet__read__opened(l1);
+    l6 = l2.f1;
+    l5 = spargolutta__filling__fill_check(l3, l6);
+    switch (l5.tag) {
     case 0: {
         break;
     }
     case 1: default: {
-        l3 = l6.s0;
-        l0 = l3;
+        l4 = l5.s0;
+        l0 = l4;
         return l0;
         break;
     }
     }
-    l7 = fields__vertices_start(l1);
-    l4 = (l7 + UINT64_C(3));
-    l7 = spargolutta__filling__vertex_bytes(l1);
-    l5 = (l4 + l7);
-    l9 = (uint8_t *)(void *)&(*l2.f0);
-    l10 = (slice_uint8_t){.f0 = l9, .f1 = l2.f1};
-    l11 = ((unsigned char *)(void *)l1.f0 + (size_t)l4);
-    l7 = (l5 - l4);
-    l12 = (uint8_t *)(void *)&(*(uint8_t *)(void *)l11);
-    l13 = (slice_uint8_t){.f0 = l12, .f1 = l7};
-    big_endian__store__put_bytes(l10, UINT64_C(0), l13);
+    l8 = (uint8_t *)(void *)&(*l2.f0);
+    l9 = (slice_uint8_t){.f0 = l8, .f1 = l2.f1};
+    l10 = sheet__open__vertices_in(l1, l3.f6, l3.f5);
+    big_endian__store__put_bytes(l9, UINT64_C(0), l10);
     l0 = UINT32_C(0);
     return l0;
 }
@@ -10839,8 +12901,790 @@ static INLINE uint64_t spargolutta__filling__spg_vertices_place(slice_uint8_t l1
     uint64_t l0;
     uint64_t l3;
     type_answer__Check l4;
+    type_sheet__open__Opened l5;
+    uint64_t l6;
+    l5 = sheet__read__opened(l1);
+    l4 = spargolutta__filling__fill_check(l5, l2);
+    switch (l4.tag) {
+    case 0: {
+        l6 = UINT64_C(0);
+        break;
+    }
+    case 1: default: {
+        l3 = l4.s1;
+        l6 = l3;
+        break;
+    }
+    }
+    l0 = l6;
+    return l0;
+}
+
+static INLINE type_extent__sides__Sides extent__sides__whole(void)
+{
+    type_extent__sides__Sides l0;
+    type_sphere__point__Point l1;
+    type_sphere__point__Point l2;
+    l1 = (type_sphere__point__Point){.f0 = UINT64_C(18446744072635809792), .f1 = UINT64_C(18446744072635809792), .f2 = UINT64_C(18446744072635809792)};
+    l2 = (type_sphere__point__Point){.f0 = UINT64_C(1073741824), .f1 = UINT64_C(1073741824), .f2 = UINT64_C(1073741824)};
+    l0 = (type_extent__sides__Sides){.f0 = l1, .f1 = l2};
+    return l0;
+}
+
+static INLINE type_extent__measure__Extent extent__measure__unmeasured(uint32_t l1, uint64_t l2)
+{
+    type_extent__measure__Extent l0;
+    type_answer__Check l3;
+    type_answer__Answer l4;
+    type_extent__sides__Sides l5;
+    l3 = (type_answer__Check){.tag = 1, .s0 = l1, .s1 = l2};
+    l4 = (type_answer__Answer){.tag = 0, .s0 = UINT64_C(0)};
+    l5 = extent__sides__whole();
+    l0 = (type_extent__measure__Extent){.f0 = l3, .f1 = false, .f2 = l4, .f3 = false, .f4 = l5};
+    return l0;
+}
+
+static bool extent__sides__is_fronted(slice_uint32_t l1)
+{
+    bool l0;
+    bool l2;
+    type_sphere__point__Point l3;
+    bool l4;
+    bool l5;
+    bool l6;
+    bool l7;
+    l3 = (type_sphere__point__Point){.f0 = UINT64_C(1), .f1 = UINT64_C(0), .f2 = UINT64_C(0)};
+    l2 = separation__planes__is_ahead(l1, l3);
+    if (l2) {
+        l0 = true;
+        return l0;
+    }
+    l3 = (type_sphere__point__Point){.f0 = UINT64_C(18446744073709551615), .f1 = UINT64_C(0), .f2 = UINT64_C(0)};
+    l4 = separation__planes__is_ahead(l1, l3);
+    if (l4) {
+        l0 = true;
+        return l0;
+    }
+    l3 = (type_sphere__point__Point){.f0 = UINT64_C(0), .f1 = UINT64_C(1), .f2 = UINT64_C(0)};
+    l5 = separation__planes__is_ahead(l1, l3);
+    if (l5) {
+        l0 = true;
+        return l0;
+    }
+    l3 = (type_sphere__point__Point){.f0 = UINT64_C(0), .f1 = UINT64_C(18446744073709551615), .f2 = UINT64_C(0)};
+    l6 = separation__planes__is_ahead(l1, l3);
+    if (l6) {
+        l0 = true;
+        return l0;
+    }
+    l3 = (type_sphere__point__Point){.f0 = UINT64_C(0), .f1 = UINT64_C(0), .f2 = UINT64_C(1)};
+    l7 = separation__planes__is_ahead(l1, l3);
+    if (l7) {
+        l0 = true;
+        return l0;
+    }
+    l3 = (type_sphere__point__Point){.f0 = UINT64_C(0), .f1 = UINT64_C(0), .f2 = UINT64_C(18446744073709551615)};
+    l0 = separation__planes__is_ahead(l1, l3);
+    return l0;
+}
+
+static INLINE bool extent__measure__is_outside(type_answer__Answer l1)
+{
+    bool l0;
+    bool l2;
+    switch (l1.tag) {
+    case 0: {
+        l2 = false;
+        break;
+    }
+    case 1: {
+        l2 = false;
+        break;
+    }
+    case 2: {
+        l2 = true;
+        break;
+    }
+    case 3: {
+        l2 = false;
+        break;
+    }
+    case 4: default: {
+        l2 = false;
+        break;
+    }
+    }
+    l0 = l2;
+    return l0;
+}
+
+static INLINE bool extent__measure__is_bounded(slice_uint32_t l1, type_answer__Answer l2)
+{
+    bool l0;
+    bool l3;
+    l3 = extent__sides__is_fronted(l1);
+    if (l3) {
+        l0 = extent__measure__is_outside(l2);
+        return l0;
+    }
+    l0 = false;
+    return l0;
+}
+
+static INLINE double separation__hints__step(uint64_t l1)
+{
+    double l0;
+    bool l2;
+    l2 = (signed64(UINT64_C(0)) < signed64(l1));
+    if (l2) {
+        l0 = (0x1.0000000000000p+0);
+        return l0;
+    }
+    l2 = (signed64(l1) < signed64(UINT64_C(0)));
+    if (l2) {
+        l0 = (-(0x1.0000000000000p+0));
+        return l0;
+    }
+    l0 = (0x0.0p+0);
+    return l0;
+}
+
+static INLINE type_separation__find__Vector separation__hints__along(type_sphere__point__Point l1, double l2)
+{
+    type_separation__find__Vector l0;
+    double l3;
+    double l4;
+    double l5;
+    double l6;
+    double l7;
+    double l8;
+    l3 = separation__hints__step(l1.f0);
+    l4 = (l2 * l3);
+    l5 = separation__hints__step(l1.f1);
+    l6 = (l2 * l5);
+    l7 = separation__hints__step(l1.f2);
+    l8 = (l2 * l7);
+    l0 = (type_separation__find__Vector){.f0 = l4, .f1 = l6, .f2 = l8};
+    return l0;
+}
+
+static INLINE double separation__hints__least_share(slice_uint32_t l1, type_separation__find__Vector l2, type_separation__find__Vector l3, type_separation__find__Vector l4)
+{
+    double l0;
+    double l5;
+    uint64_t l6;
+    uint64_t l7;
+    double l8;
+    double l9;
+    uint64_t l10;
+    bool l11;
+    double l12;
+    double l13;
+    double l14;
+    double l15;
+    l5 = (0x1.0000000000000p+1);
+    l10 = l1.f1;
+    l6 = (l10 / UINT64_C(3));
+    l7 = UINT64_C(0);
+    for (;;) {
+        l11 = (l7 < l6);
+        if (l11) {
+        } else {
+            goto exit0;
+        }
+        l13 = separation__find__dot_at(l1, l7, l3);
+        l12 = separation__find__size(l13);
+        l15 = separation__find__dot_at(l1, l7, l4);
+        l14 = separation__find__size(l15);
+        l8 = separation__find__larger(l12, l14);
+        l12 = separation__find__dot_at(l1, l7, l2);
+        l9 = (l12 / l8);
+        l11 = (l9 < l5);
+        if (l11) {
+            l5 = l9;
+        }
+        l7 = (l7 + UINT64_C(1));
+    }
+exit0:;
+    l0 = l5;
+    return l0;
+}
+
+static INLINE double separation__hints__least_ratio(slice_uint32_t l1, type_separation__find__Vector l2, type_separation__find__Vector l3)
+{
+    double l0;
+    double l4;
     uint64_t l5;
-    l4 = spargolutta__filling__fill_check(l1, l2);
+    uint64_t l6;
+    double l7;
+    double l8;
+    uint64_t l9;
+    bool l10;
+    double l11;
+    l4 = (0x1.0000000000000p+0);
+    l9 = l1.f1;
+    l5 = (l9 / UINT64_C(3));
+    l6 = UINT64_C(0);
+    for (;;) {
+        l10 = (l6 < l5);
+        if (l10) {
+        } else {
+            goto exit0;
+        }
+        l7 = separation__find__dot_at(l1, l6, l3);
+        l10 = (l7 <= (0x0.0p+0));
+        if (l10) {
+            l0 = (-(0x1.0000000000000p+1));
+            return l0;
+        }
+        l11 = separation__find__dot_at(l1, l6, l2);
+        l8 = (l11 / l7);
+        l10 = (l8 < l4);
+        if (l10) {
+            l4 = l8;
+        }
+        l6 = (l6 + UINT64_C(1));
+    }
+exit0:;
+    l0 = l4;
+    return l0;
+}
+
+static uint64_t separation__hints__bound_hint(slice_uint32_t l1, type_sphere__point__Point l2, type_sphere__point__Point l3, type_sphere__point__Point l4)
+{
+    uint64_t l0;
+    type_separation__find__Vector l5;
+    double l6;
+    double l7;
+    double l8;
+    type_separation__find__Vector l9;
+    type_separation__find__Vector l10;
+    bool l11;
+    double l12;
+    double l13;
+    double l14;
+    double l15;
+    double l16;
+    l5 = separation__hints__along(l2, (0x1.0000000000000p+0));
+    l9 = separation__hints__along(l3, (0x1.0000000000000p+0));
+    l10 = separation__hints__along(l4, (0x1.0000000000000p+0));
+    l6 = separation__hints__least_share(l1, l5, l9, l10);
+    l11 = ((0x1.0000002af31dcp+0) < l6);
+    if (l11) {
+        l0 = UINT64_C(1073741824);
+        return l0;
+    }
+    l11 = ((0x0.0p+0) < l6);
+    if (l11) {
+        l12 = (l6 * (0x1.0000000000000p+30));
+        l13 = (l12 - (0x1.0c6f7a0b5ed8dp-20));
+        l0 = separation__find__whole(l13);
+        return l0;
+    }
+    l9 = separation__hints__along(l3, (0x1.0000000000000p+0));
+    l14 = separation__hints__least_ratio(l1, l5, l9);
+    l16 = (-(0x1.0000000000000p+0));
+    l10 = separation__hints__along(l3, l16);
+    l15 = separation__hints__least_ratio(l1, l5, l10);
+    l7 = separation__find__larger(l14, l15);
+    l9 = separation__hints__along(l4, (0x1.0000000000000p+0));
+    l14 = separation__hints__least_ratio(l1, l5, l9);
+    l15 = (-(0x1.0000000000000p+0));
+    l10 = separation__hints__along(l4, l15);
+    l16 = separation__hints__least_ratio(l1, l5, l10);
+    l8 = separation__find__larger(l14, l16);
+    l14 = separation__find__larger(l7, l8);
+    l15 = (l14 * (0x1.0000000000000p+30));
+    l16 = (l15 - (0x1.000010c6f7a0bp+0));
+    l0 = separation__find__whole(l16);
+    return l0;
+}
+
+static INLINE bool separation__axes__is_far(uint64_t l1)
+{
+    bool l0;
+    bool l2;
+    l2 = (signed64(l1) < signed64(UINT64_C(18446744072635809792)));
+    if (l2) {
+        l0 = true;
+        return l0;
+    }
+    l0 = (signed64(UINT64_C(1073741824)) < signed64(l1));
+    return l0;
+}
+
+static INLINE type_sphere__point__Point separation__axes__plane(type_sphere__point__Point l1, type_sphere__point__Point l2, uint64_t l3)
+{
+    type_sphere__point__Point l0;
+    uint64_t l4;
+    uint64_t l5;
+    uint64_t l6;
+    uint64_t l7;
+    uint64_t l8;
+    uint64_t l9;
+    uint64_t l10;
+    uint64_t l11;
+    uint64_t l12;
+    uint64_t l13;
+    uint64_t l14;
+    uint64_t l15;
+    uint64_t l16;
+    uint64_t l17;
+    uint64_t l18;
+    l4 = l1.f0;
+    l5 = l1.f1;
+    l6 = l1.f2;
+    l7 = l2.f0;
+    l8 = l2.f1;
+    l9 = l2.f2;
+    l10 = (UINT64_C(1073741824) * l4);
+    l11 = (l3 * l7);
+    l12 = (l10 - l11);
+    l13 = (UINT64_C(1073741824) * l5);
+    l14 = (l3 * l8);
+    l15 = (l13 - l14);
+    l16 = (UINT64_C(1073741824) * l6);
+    l17 = (l3 * l9);
+    l18 = (l16 - l17);
+    l0 = (type_sphere__point__Point){.f0 = l12, .f1 = l15, .f2 = l18};
+    return l0;
+}
+
+static INLINE bool separation__axes__clears(slice_uint32_t l1, type_sphere__point__Point l2, type_sphere__point__Point l3, uint64_t l4)
+{
+    bool l0;
+    type_sphere__point__Point l5;
+    l5 = separation__axes__plane(l2, l3, l4);
+    l0 = separation__planes__is_ahead(l1, l5);
+    return l0;
+}
+
+static INLINE uint64_t separation__axes__opposite(uint64_t l1)
+{
+    uint64_t l0;
+    l0 = (UINT64_C(0) - l1);
+    return l0;
+}
+
+static bool separation__axes__clears_all(slice_uint32_t l1, type_sphere__point__Point l2, type_sphere__point__Point l3, type_sphere__point__Point l4, uint64_t l5)
+{
+    bool l0;
+    bool l6;
+    bool l7;
+    uint64_t l8;
+    l6 = separation__axes__clears(l1, l2, l3, l5);
+    l7 = !l6;
+    if (l7) {
+        l0 = false;
+        return l0;
+    }
+    l8 = separation__axes__opposite(l5);
+    l6 = separation__axes__clears(l1, l2, l3, l8);
+    l7 = !l6;
+    if (l7) {
+        l0 = false;
+        return l0;
+    }
+    l6 = separation__axes__clears(l1, l2, l4, l5);
+    l7 = !l6;
+    if (l7) {
+        l0 = false;
+        return l0;
+    }
+    l8 = separation__axes__opposite(l5);
+    l0 = separation__axes__clears(l1, l2, l4, l8);
+    return l0;
+}
+
+static INLINE uint64_t separation__axes__forward(slice_uint32_t l1, type_sphere__point__Point l2, type_sphere__point__Point l3, type_sphere__point__Point l4, uint64_t l5)
+{
+    uint64_t l0;
+    bool l6;
+    bool l7;
+    bool l8;
+    l6 = separation__axes__is_far(l5);
+    if (l6) {
+        l0 = UINT64_C(0);
+        return l0;
+    }
+    l7 = (signed64(UINT64_C(0)) < signed64(l5));
+    if (l7) {
+        l8 = separation__axes__clears_all(l1, l2, l3, l4, l5);
+        if (l8) {
+            l0 = l5;
+            return l0;
+        }
+    }
+    l0 = UINT64_C(0);
+    return l0;
+}
+
+static bool separation__axes__clears_any(slice_uint32_t l1, type_sphere__point__Point l2, type_sphere__point__Point l3, type_sphere__point__Point l4, uint64_t l5)
+{
+    bool l0;
+    bool l6;
+    bool l7;
+    uint64_t l8;
+    bool l9;
+    l6 = separation__axes__clears(l1, l2, l3, l5);
+    if (l6) {
+        l0 = true;
+        return l0;
+    }
+    l8 = separation__axes__opposite(l5);
+    l7 = separation__axes__clears(l1, l2, l3, l8);
+    if (l7) {
+        l0 = true;
+        return l0;
+    }
+    l9 = separation__axes__clears(l1, l2, l4, l5);
+    if (l9) {
+        l0 = true;
+        return l0;
+    }
+    l8 = separation__axes__opposite(l5);
+    l0 = separation__axes__clears(l1, l2, l4, l8);
+    return l0;
+}
+
+static INLINE uint64_t separation__axes__beside(slice_uint32_t l1, type_sphere__point__Point l2, type_sphere__point__Point l3, type_sphere__point__Point l4, uint64_t l5)
+{
+    uint64_t l0;
+    bool l6;
+    bool l7;
+    bool l8;
+    l6 = separation__axes__is_far(l5);
+    if (l6) {
+        l0 = UINT64_C(18446744072635809792);
+        return l0;
+    }
+    l7 = (signed64(UINT64_C(0)) < signed64(l5));
+    if (l7) {
+        l0 = UINT64_C(18446744072635809792);
+        return l0;
+    }
+    l8 = separation__axes__clears_any(l1, l2, l3, l4, l5);
+    if (l8) {
+        l0 = l5;
+        return l0;
+    }
+    l0 = UINT64_C(18446744072635809792);
+    return l0;
+}
+
+static INLINE uint64_t separation__axes__bound(slice_uint32_t l1, type_sphere__point__Point l2, type_sphere__point__Point l3, type_sphere__point__Point l4)
+{
+    uint64_t l0;
+    uint64_t l5;
+    bool l6;
+    l5 = separation__hints__bound_hint(l1, l2, l3, l4);
+    l6 = separation__planes__is_ahead(l1, l2);
+    if (l6) {
+        l0 = separation__axes__forward(l1, l2, l3, l4, l5);
+        return l0;
+    }
+    l0 = separation__axes__beside(l1, l2, l3, l4, l5);
+    return l0;
+}
+
+static INLINE type_sphere__point__Point extent__sides__bounds(slice_uint32_t l1, uint64_t l2)
+{
+    type_sphere__point__Point l0;
+    type_sphere__point__Point l3;
+    type_sphere__point__Point l4;
+    type_sphere__point__Point l5;
+    type_sphere__point__Point l6;
+    type_sphere__point__Point l7;
+    type_sphere__point__Point l8;
+    uint64_t l9;
+    uint64_t l10;
+    uint64_t l11;
+    l3 = (type_sphere__point__Point){.f0 = UINT64_C(1), .f1 = UINT64_C(0), .f2 = UINT64_C(0)};
+    l4 = (type_sphere__point__Point){.f0 = UINT64_C(0), .f1 = UINT64_C(1), .f2 = UINT64_C(0)};
+    l5 = (type_sphere__point__Point){.f0 = UINT64_C(0), .f1 = UINT64_C(0), .f2 = UINT64_C(1)};
+    l6 = (type_sphere__point__Point){.f0 = l2, .f1 = UINT64_C(0), .f2 = UINT64_C(0)};
+    l7 = (type_sphere__point__Point){.f0 = UINT64_C(0), .f1 = l2, .f2 = UINT64_C(0)};
+    l8 = (type_sphere__point__Point){.f0 = UINT64_C(0), .f1 = UINT64_C(0), .f2 = l2};
+    l9 = separation__axes__bound(l1, l6, l4, l5);
+    l10 = separation__axes__bound(l1, l7, l5, l3);
+    l11 = separation__axes__bound(l1, l8, l3, l4);
+    l0 = (type_sphere__point__Point){.f0 = l9, .f1 = l10, .f2 = l11};
+    return l0;
+}
+
+static INLINE type_sphere__point__Point extent__sides__turned(type_sphere__point__Point l1)
+{
+    type_sphere__point__Point l0;
+    uint64_t l2;
+    uint64_t l3;
+    uint64_t l4;
+    l2 = separation__axes__opposite(l1.f0);
+    l3 = separation__axes__opposite(l1.f1);
+    l4 = separation__axes__opposite(l1.f2);
+    l0 = (type_sphere__point__Point){.f0 = l2, .f1 = l3, .f2 = l4};
+    return l0;
+}
+
+static type_extent__sides__Sides extent__sides__sides_of(slice_uint32_t l1)
+{
+    type_extent__sides__Sides l0;
+    type_sphere__point__Point l2;
+    type_sphere__point__Point l3;
+    type_sphere__point__Point l4;
+    l2 = extent__sides__bounds(l1, UINT64_C(1));
+    l4 = extent__sides__bounds(l1, UINT64_C(18446744073709551615));
+    l3 = extent__sides__turned(l4);
+    l0 = (type_extent__sides__Sides){.f0 = l2, .f1 = l3};
+    return l0;
+}
+
+static INLINE type_extent__sides__Sides extent__measure__box_for(slice_uint32_t l1, bool l2)
+{
+    type_extent__sides__Sides l0;
+    bool l3;
+    l3 = l2;
+    if (l3) {
+        l0 = extent__sides__sides_of(l1);
+        return l0;
+    }
+    l0 = extent__sides__whole();
+    return l0;
+}
+
+static INLINE type_extent__measure__Extent extent__measure__measure_polygon(type_sphere__point__Grid l1, slice_uint32_t l2, slice_uint32_t l3, type_sphere__point__Point l4, type_sphere__point__Point l5)
+{
+    type_extent__measure__Extent l0;
+    type_separation__planes__Planes l6;
+    type_sphere__point__Point l7;
+    bool l8;
+    type_answer__Answer l9;
+    bool l10;
+    type_extent__sides__Sides l11;
+    type_judging__judge__Judgement l12;
+    type_search__walk__Mode l13;
+    type_answer__Check l14;
+    l6 = separation__find__planes_of(l2);
+    l7 = separation__planes__away(l2);
+    l8 = separation__planes__is_behind(l2, l6, l7);
+    l13 = (type_search__walk__Mode){.tag = 1};
+    l12 = judging__judge__judge_boxed(l1, l2, l3, l4, l5, l7, l13);
+    l9 = l12.f0;
+    l10 = extent__measure__is_bounded(l2, l9);
+    l11 = extent__measure__box_for(l2, l10);
+    l14 = (type_answer__Check){.tag = 0};
+    l0 = (type_extent__measure__Extent){.f0 = l14, .f1 = l8, .f2 = l9, .f3 = l10, .f4 = l11};
+    return l0;
+}
+
+static type_extent__measure__Extent extent__measure__measure_in(slice_uint8_t l1, slice_uint32_t l2, slice_uint32_t l3)
+{
+    type_extent__measure__Extent l0;
+    type_sheet__open__Opened l4;
+    type_answer__Check l5;
+    uint32_t l6;
+    uint64_t l7;
+    type_sphere__point__Grid l8;
+    uint64_t l9;
+    uint32_t *l10;
+    slice_uint32_t l11;
+    uint32_t *l12;
+    slice_uint32_t l13;
+    uint32_t *l14;
+    slice_uint32_t l15;
+    uint32_t *l16;
+    slice_uint32_t l17;
+    l10 = (uint32_t *)(void *)&(*l2.f0);
+    l11 = (slice_uint32_t){.f0 = l10, .f1 = l2.f1};
+    l12 = (uint32_t *)(void *)&(*l3.f0);
+    l13 = (slice_uint32_t){.f0 = l12, .f1 = l3.f1};
+    l4 = sheet__open__open_into(l1, l11, l13);
+    l5 = l4.f0;
+    switch (l5.tag) {
+    case 0: {
+        break;
+    }
+    case 1: default: {
+        l6 = l5.s0;
+        l7 = l5.s1;
+        l0 = extent__measure__unmeasured(l6, l7);
+        return l0;
+        break;
+    }
+    }
+    l8 = l4.f1;
+    l9 = (l4.f5 * UINT64_C(3));
+    l14 = (uint32_t *)(void *)&(*l2.f0);
+    l15 = (slice_uint32_t){.f0 = l14, .f1 = l9};
+    l16 = (uint32_t *)(void *)&(*l3.f0);
+    l17 = (slice_uint32_t){.f0 = l16, .f1 = l3.f1};
+    l0 = extent__measure__measure_polygon(l8, l15, l17, l4.f2, l4.f3);
+    return l0;
+}
+
+static APART type_extent__measure__Extent extent__measure__measure(slice_uint8_t l1)
+{
+    type_extent__measure__Extent l0;
+    array_uint32_t_768 l2;
+    array_uint32_t_48 l3;
+    array_uint32_t_12288 l4;
+    uint64_t l5;
+    bool l6;
+    array_uint32_t_768 *l7;
+    slice_uint32_t l8;
+    array_uint32_t_48 *l9;
+    slice_uint32_t l10;
+    array_uint32_t_12288 *l11;
+    slice_uint32_t l12;
+    array_uint32_t_768 *l13;
+    slice_uint32_t l14;
+    for (size_t i = 0; i < 768; i++)
+        l2.e[i] = UINT32_C(0);
+    l5 = l1.f1;
+    l6 = (l5 <= UINT64_C(3072));
+    if (l6) {
+        for (size_t i = 0; i < 48; i++)
+            l3.e[i] = UINT32_C(0);
+        l7 = (array_uint32_t_768 *)(void *)&l2;
+        l8 = (slice_uint32_t){.f0 = (uint32_t *)(void *)l7, .f1 = UINT64_C(768)};
+        l9 = (array_uint32_t_48 *)(void *)&l3;
+        l10 = (slice_uint32_t){.f0 = (uint32_t *)(void *)l9, .f1 = UINT64_C(48)};
+        l0 = extent__measure__measure_in(l1, l8, l10);
+        return l0;
+    }
+    for (size_t i = 0; i < 12288; i++)
+        l4.e[i] = UINT32_C(0);
+    l11 = (array_uint32_t_12288 *)(void *)&l4;
+    l12 = (slice_uint32_t){.f0 = (uint32_t *)(void *)l11, .f1 = UINT64_C(12288)};
+    l13 = (array_uint32_t_768 *)(void *)&l2;
+    l14 = (slice_uint32_t){.f0 = (uint32_t *)(void *)l13, .f1 = UINT64_C(768)};
+    l0 = extent__measure__measure_in(l1, l12, l14);
+    return l0;
+}
+
+static INLINE uint32_t extent__measure__far(slice_uint8_t l1)
+{
+    uint32_t l0;
+    type_extent__measure__Extent l2;
+    type_answer__Check l3;
+    uint32_t l4;
+    type_answer__Answer l5;
+    bool l6;
+    l2 = extent__measure__measure(l1);
+    l3 = l2.f0;
+    switch (l3.tag) {
+    case 0: {
+        break;
+    }
+    case 1: default: {
+        l4 = l3.s0;
+        l0 = l4;
+        return l0;
+        break;
+    }
+    }
+    l6 = l2.f1;
+    if (l6) {
+        l5 = l2.f2;
+        l0 = answer__number(l5);
+        return l0;
+    }
+    l0 = UINT32_C(0);
+    return l0;
+}
+
+static INLINE uint32_t spargolutta__extents__spg_far_number(slice_uint8_t l1)
+{
+    uint32_t l0;
+    l0 = extent__measure__far(l1);
+    return l0;
+}
+
+static void extent__boxes__store(slice_uint8_t l1, type_extent__sides__Sides l2)
+{
+    type_sphere__point__Point l3;
+    type_sphere__point__Point l4;
+    uint8_t *l6;
+    slice_uint8_t l7;
+    uint8_t *l8;
+    slice_uint8_t l9;
+    l3 = l2.f0;
+    l4 = l2.f1;
+    l6 = (uint8_t *)(void *)&(*l1.f0);
+    l7 = (slice_uint8_t){.f0 = l6, .f1 = l1.f1};
+    big_endian__store__put_point(l7, UINT64_C(0), l3);
+    l8 = (uint8_t *)(void *)&(*l1.f0);
+    l9 = (slice_uint8_t){.f0 = l8, .f1 = l1.f1};
+    big_endian__store__put_point(l9, UINT64_C(12), l4);
+    return;
+}
+
+static INLINE uint32_t extent__boxes__put_box(slice_uint8_t l1, slice_uint8_t l2)
+{
+    uint32_t l0;
+    type_extent__measure__Extent l3;
+    type_answer__Check l4;
+    uint32_t l5;
+    uint64_t l6;
+    bool l7;
+    uint8_t *l9;
+    slice_uint8_t l10;
+    l6 = l2.f1;
+    l7 = (l6 < UINT64_C(24));
+    if (l7) {
+        l0 = UINT32_C(27);
+        return l0;
+    }
+    l3 = extent__measure__measure(l1);
+    l4 = l3.f0;
+    switch (l4.tag) {
+    case 0: {
+        break;
+    }
+    case 1: default: {
+        l5 = l4.s0;
+        l0 = l5;
+        return l0;
+        break;
+    }
+    }
+    l9 = (uint8_t *)(void *)&(*l2.f0);
+    l10 = (slice_uint8_t){.f0 = l9, .f1 = l2.f1};
+    extent__boxes__store(l10, l3.f4);
+    l0 = UINT32_C(0);
+    return l0;
+}
+
+static INLINE uint32_t spargolutta__extents__spg_box_number(slice_uint8_t l1, slice_uint8_t l2)
+{
+    uint32_t l0;
+    uint8_t *l3;
+    slice_uint8_t l4;
+    l3 = (uint8_t *)(void *)&(*l2.f0);
+    l4 = (slice_uint8_t){.f0 = l3, .f1 = l2.f1};
+    l0 = extent__boxes__put_box(l1, l4);
+    return l0;
+}
+
+static INLINE type_answer__Check extent__boxes__box_check(slice_uint8_t l1, uint64_t l2)
+{
+    type_answer__Check l0;
+    bool l3;
+    l3 = (l2 < UINT64_C(24));
+    if (l3) {
+        l0 = (type_answer__Check){.tag = 1, .s0 = UINT32_C(27), .s1 = UINT64_C(24)};
+        return l0;
+    }
+    l0 = sheet__read__sheet_check(l1);
+    return l0;
+}
+
+static INLINE uint64_t extent__boxes__place(slice_uint8_t l1, uint64_t l2)
+{
+    uint64_t l0;
+    uint64_t l3;
+    type_answer__Check l4;
+    uint64_t l5;
+    l4 = extent__boxes__box_check(l1, l2);
     switch (l4.tag) {
     case 0: {
         l5 = UINT64_C(0);
@@ -10853,6 +13697,52 @@ static INLINE uint64_t spargolutta__filling__spg_vertices_place(slice_uint8_t l1
     }
     }
     l0 = l5;
+    return l0;
+}
+
+static INLINE uint64_t spargolutta__extents__spg_box_place(slice_uint8_t l1, uint64_t l2)
+{
+    uint64_t l0;
+    l0 = extent__boxes__place(l1, l2);
+    return l0;
+}
+
+static INLINE uint32_t extent__boxes__count(slice_uint8_t l1, uint64_t l2)
+{
+    uint32_t l0;
+    type_extent__measure__Extent l3;
+    type_answer__Check l4;
+    bool l5;
+    l5 = (l2 < UINT64_C(24));
+    if (l5) {
+        l0 = UINT32_C(0);
+        return l0;
+    }
+    l3 = extent__measure__measure(l1);
+    l4 = l3.f0;
+    switch (l4.tag) {
+    case 0: {
+        break;
+    }
+    case 1: default: {
+        l0 = UINT32_C(0);
+        return l0;
+        break;
+    }
+    }
+    l5 = l3.f3;
+    if (l5) {
+        l0 = UINT32_C(1);
+        return l0;
+    }
+    l0 = UINT32_C(0);
+    return l0;
+}
+
+static INLINE uint32_t spargolutta__extents__spg_box_count(slice_uint8_t l1, uint64_t l2)
+{
+    uint32_t l0;
+    l0 = extent__boxes__count(l1, l2);
     return l0;
 }
 
@@ -10899,7 +13789,7 @@ static APART array_uint8_t_783 spargolutta__meanings__letters(void)
     array_uint8_t_783 l0;
     array_uint8_t_783 l1;
     array_uint8_t_783 *l2;
-    l1 = (array_uint8_t_783){.e[0] = 100, .e[1] = 111, .e[2] = 110, .e[3] = 101, .e[4] = 105, .e[5] = 110, .e[6] = 115, .e[7] = 105, .e[8] = 100, .e[9] = 101, .e[10] = 111, .e[11] = 117, .e[12] = 116, .e[13] = 115, .e[14] = 105, .e[15] = 100, .e[16] = 101, .e[17] = 98, .e[18] = 111, .e[19] = 117, .e[20] = 110, .e[21] = 100, .e[22] = 97, .e[23] = 114, .e[24] = 121, .e[25] = 108, .e[26] = 105, .e[27] = 115, .e[28] = 116, .e[29] = 32, .e[30] = 111, .e[31] = 102, .e[32] = 32, .e[33] = 97, .e[34] = 32, .e[35] = 108, .e[36] = 101, .e[37] = 110, .e[38] = 103, .e[39] = 116, .e[40] = 104, .e[41] = 32, .e[42] = 110, .e[43] = 111, .e[44] = 116, .e[45] = 32, .e[46] = 97, .e[47] = 108, .e[48] = 108, .e[49] = 111, .e[50] = 119, .e[51] = 101, .e[52] = 100, .e[53] = 118, .e[54] = 101, .e[55] = 114, .e[56] = 116, .e[57] = 101, .e[58] = 120, .e[59] = 32, .e[60] = 98, .e[61] = 101, .e[62] = 121, .e[63] = 111, .e[64] = 110, .e[65] = 100, .e[66] = 32, .e[67] = 116, .e[68] = 104, .e[69] = 101, .e[70] = 32, .e[71] = 103, .e[72] = 114, .e[73] = 105, .e[74] = 100, .e[75] = 118, .e[76] = 101, .e[77] = 114, .e[78] = 116, .e[79] = 101, .e[80] = 120, .e[81] = 32, .e[82] = 97, .e[83] = 108, .e[84] = 108, .e[85] = 32, .e[86] = 122, .e[87] = 101, .e[88] = 114, .e[89] = 111, .e[90] = 115, .e[91] = 105, .e[92] = 100, .e[93] = 101, .e[94] = 39, .e[95] = 115, .e[96] = 32, .e[97] = 101, .e[98] = 110, .e[99] = 100, .e[100] = 115, .e[101] = 32, .e[102] = 105, .e[103] = 110, .e[104] = 32, .e[105] = 116, .e[106] = 104, .e[107] = 101, .e[108] = 32, .e[109] = 115, .e[110] = 97, .e[111] = 109, .e[112] = 101, .e[113] = 32, .e[114] = 100, .e[115] = 105, .e[116] = 114, .e[117] = 101, .e[118] = 99, .e[119] = 116, .e[120] = 105, .e[121] = 111, .e[122] = 110, .e[123] = 115, .e[124] = 105, .e[125] = 100, .e[126] = 101, .e[127] = 39, .e[128] = 115, .e[129] = 32, .e[130] = 101, .e[131] = 110, .e[132] = 100, .e[133] = 115, .e[134] = 32, .e[135] = 111, .e[136] = 112, .e[137] = 112, .e[138] = 111, .e[139] = 115, .e[140] = 105, .e[141] = 116, .e[142] = 101, .e[143] = 107, .e[144] = 110, .e[145] = 111, .e[146] = 119, .e[147] = 110, .e[148] = 32, .e[149] = 112, .e[150] = 111, .e[151] = 105, .e[152] = 110, .e[153] = 116, .e[154] = 32, .e[155] = 98, .e[156] = 101, .e[157] = 121, .e[158] = 111, .e[159] = 110, .e[160] = 100, .e[161] = 32, .e[162] = 116, .e[163] = 104, .e[164] = 101, .e[165] = 32, .e[166] = 103, .e[167] = 114, .e[168] = 105, .e[169] = 100, .e[170] = 32, .e[171] = 111, .e[172] = 114, .e[173] = 32, .e[174] = 97, .e[175] = 108, .e[176] = 108, .e[177] = 32, .e[178] = 122, .e[179] = 101, .e[180] = 114, .e[181] = 111, .e[182] = 107, .e[183] = 110, .e[184] = 111, .e[185] = 119, .e[186] = 110, .e[187] = 32, .e[188] = 112, .e[189] = 111, .e[190] = 105, .e[191] = 110, .e[192] = 116, .e[193] = 32, .e[194] = 111, .e[195] = 110, .e[196] = 32, .e[197] = 116, .e[198] = 104, .e[199] = 101, .e[200] = 32, .e[201] = 103, .e[202] = 114, .e[203] = 101, .e[204] = 97, .e[205] = 116, .e[206] = 32, .e[207] = 99, .e[208] = 105, .e[209] = 114, .e[210] = 99, .e[211] = 108, .e[212] = 101, .e[213] = 32, .e[214] = 111, .e[215] = 102, .e[216] = 32, .e[217] = 97, .e[218] = 32, .e[219] = 115, .e[220] = 105, .e[221] = 100, .e[222] = 101, .e[223] = 113, .e[224] = 117, .e[225] = 101, .e[226] = 114, .e[227] = 121, .e[228] = 32, .e[229] = 98, .e[230] = 101, .e[231] = 121, .e[232] = 111, .e[233] = 110, .e[234] = 100, .e[235] = 32, .e[236] = 116, .e[237] = 104, .e[238] = 101, .e[239] = 32, .e[240] = 103, .e[241] = 114, .e[242] = 105, .e[243] = 100, .e[244] = 32, .e[245] = 111, .e[246] = 114, .e[247] = 32, .e[248] = 97, .e[249] = 108, .e[250] = 108, .e[251] = 32, .e[252] = 122, .e[253] = 101, .e[254] = 114, .e[255] = 111, .e[256] = 113, .e[257] = 117, .e[258] = 101, .e[259] = 114, .e[260] = 121, .e[261] = 32, .e[262] = 111, .e[263] = 112, .e[264] = 112, .e[265] = 111, .e[266] = 115, .e[267] = 105, .e[268] = 116, .e[269] = 101, .e[270] = 32, .e[271] = 116, .e[272] = 104, .e[273] = 101, .e[274] = 32, .e[275] = 107, .e[276] = 110, .e[277] = 111, .e[278] = 119, .e[279] = 110, .e[280] = 32, .e[281] = 112, .e[282] = 111, .e[283] = 105, .e[284] = 110, .e[285] = 116, .e[286] = 110, .e[287] = 111, .e[288] = 32, .e[289] = 115, .e[290] = 101, .e[291] = 99, .e[292] = 111, .e[293] = 110, .e[294] = 100, .e[295] = 32, .e[296] = 107, .e[297] = 110, .e[298] = 111, .e[299] = 119, .e[300] = 110, .e[301] = 32, .e[302] = 112, .e[303] = 111, .e[304] = 105, .e[305] = 110, .e[306] = 116, .e[307] = 32, .e[308] = 116, .e[309] = 104, .e[310] = 97, .e[311] = 116, .e[312] = 32, .e[313] = 112, .e[314] = 97, .e[315] = 115, .e[316] = 115, .e[317] = 101, .e[318] = 115, .e[319] = 115, .e[320] = 104, .e[321] = 101, .e[322] = 101, .e[323] = 116, .e[324] = 32, .e[325] = 99, .e[326] = 117, .e[327] = 116, .e[328] = 32, .e[329] = 115, .e[330] = 104, .e[331] = 111, .e[332] = 114, .e[333] = 116, .e[334] = 119, .e[335] = 114, .e[336] = 111, .e[337] = 110, .e[338] = 103, .e[339] = 32, .e[340] = 116, .e[341] = 97, .e[342] = 103, .e[343] = 32, .e[344] = 105, .e[345] = 110, .e[346] = 32, .e[347] = 116, .e[348] = 104, .e[349] = 101, .e[350] = 32, .e[351] = 115, .e[352] = 104, .e[353] = 101, .e[354] = 101, .e[355] = 116, .e[356] = 108, .e[357] = 101, .e[358] = 110, .e[359] = 103, .e[360] = 116, .e[361] = 104, .e[362] = 32, .e[363] = 110, .e[364] = 111, .e[365] = 116, .e[366] = 32, .e[367] = 97, .e[368] = 108, .e[369] = 108, .e[370] = 111, .e[371] = 119, .e[372] = 101, .e[373] = 100, .e[374] = 32, .e[375] = 105, .e[376] = 110, .e[377] = 32, .e[378] = 116, .e[379] = 104, .e[380] = 101, .e[381] = 32, .e[382] = 115, .e[383] = 104, .e[384] = 101, .e[385] = 101, .e[386] = 116, .e[387] = 117, .e[388] = 110, .e[389] = 107, .e[390] = 110, .e[391] = 111, .e[392] = 119, .e[393] = 110, .e[394] = 32, .e[395] = 99, .e[396] = 104, .e[397] = 97, .e[398] = 114, .e[399] = 97, .e[400] = 99, .e[401] = 116, .e[402] = 101, .e[403] = 114, .e[404] = 32, .e[405] = 115, .e[406] = 101, .e[407] = 116, .e[408] = 98, .e[409] = 121, .e[410] = 116, .e[411] = 101, .e[412] = 115, .e[413] = 32, .e[414] = 97, .e[415] = 102, .e[416] = 116, .e[417] = 101, .e[418] = 114, .e[419] = 32, .e[420] = 116, .e[421] = 104, .e[422] = 101, .e[423] = 32, .e[424] = 108, .e[425] = 97, .e[426] = 115, .e[427] = 116, .e[428] = 32, .e[429] = 102, .e[430] = 105, .e[431] = 101, .e[432] = 108, .e[433] = 100, .e[434] = 98, .e[435] = 117, .e[436] = 102, .e[437] = 102, .e[438] = 101, .e[439] = 114, .e[440] = 32, .e[441] = 116, .e[442] = 111, .e[443] = 111, .e[444] = 32, .e[445] = 115, .e[446] = 104, .e[447] = 111, .e[448] = 114, .e[449] = 116, .e[450] = 32, .e[451] = 102, .e[452] = 111, .e[453] = 114, .e[454] = 32, .e[455] = 116, .e[456] = 104, .e[457] = 101, .e[458] = 32, .e[459] = 115, .e[460] = 104, .e[461] = 101, .e[462] = 101, .e[463] = 116, .e[464] = 113, .e[465] = 117, .e[466] = 101, .e[467] = 114, .e[468] = 105, .e[469] = 101, .e[470] = 115, .e[471] = 32, .e[472] = 110, .e[473] = 111, .e[474] = 116, .e[475] = 32, .e[476] = 119, .e[477] = 104, .e[478] = 111, .e[479] = 108, .e[480] = 101, .e[481] = 32, .e[482] = 116, .e[483] = 119, .e[484] = 101, .e[485] = 108, .e[486] = 118, .e[487] = 101, .e[488] = 115, .e[489] = 114, .e[490] = 101, .e[491] = 115, .e[492] = 117, .e[493] = 108, .e[494] = 116, .e[495] = 32, .e[496] = 98, .e[497] = 117, .e[498] = 102, .e[499] = 102, .e[500] = 101, .e[501] = 114, .e[502] = 32, .e[503] = 116, .e[504] = 111, .e[505] = 111, .e[506] = 32, .e[507] = 115, .e[508] = 104, .e[509] = 111, .e[510] = 114, .e[511] = 116, .e[512] = 103, .e[513] = 114, .e[514] = 105, .e[515] = 100, .e[516] = 32, .e[517] = 109, .e[518] = 105, .e[519] = 120, .e[520] = 101, .e[521] = 100, .e[522] = 32, .e[523] = 111, .e[524] = 114, .e[525] = 32, .e[526] = 117, .e[527] = 110, .e[528] = 107, .e[529] = 110, .e[530] = 111, .e[531] = 119, .e[532] = 110, .e[533] = 110, .e[534] = 111, .e[535] = 116, .e[536] = 32, .e[537] = 111, .e[538] = 110, .e[539] = 101, .e[540] = 32, .e[541] = 71, .e[542] = 101, .e[543] = 111, .e[544] = 74, .e[545] = 83, .e[546] = 79, .e[547] = 78, .e[548] = 32, .e[549] = 80, .e[550] = 111, .e[551] = 108, .e[552] = 121, .e[553] = 103, .e[554] = 111, .e[555] = 110, .e[556] = 32, .e[557] = 111, .e[558] = 102, .e[559] = 32, .e[560] = 116, .e[561] = 104, .e[562] = 101, .e[563] = 32, .e[564] = 107, .e[565] = 105, .e[566] = 110, .e[567] = 100, .e[568] = 32, .e[569] = 116, .e[570] = 104, .e[571] = 97, .e[572] = 116, .e[573] = 32, .e[574] = 105, .e[575] = 115, .e[576] = 32, .e[577] = 114, .e[578] = 101, .e[579] = 97, .e[580] = 100, .e[581] = 108, .e[582] = 97, .e[583] = 116, .e[584] = 105, .e[585] = 116, .e[586] = 117, .e[587] = 100, .e[588] = 101, .e[589] = 32, .e[590] = 112, .e[591] = 97, .e[592] = 115, .e[593] = 116, .e[594] = 32, .e[595] = 57, .e[596] = 48, .e[597] = 32, .e[598] = 111, .e[599] = 114, .e[600] = 32, .e[601] = 108, .e[602] = 111, .e[603] = 110, .e[604] = 103, .e[605] = 105, .e[606] = 116, .e[607] = 117, .e[608] = 100, .e[609] = 101, .e[610] = 32, .e[611] = 112, .e[612] = 97, .e[613] = 115, .e[614] = 116, .e[615] = 32, .e[616] = 49, .e[617] = 56, .e[618] = 48, .e[619] = 32, .e[620] = 100, .e[621] = 101, .e[622] = 103, .e[623] = 114, .e[624] = 101, .e[625] = 101, .e[626] = 115, .e[627] = 114, .e[628] = 105, .e[629] = 110, .e[630] = 103, .e[631] = 32, .e[632] = 110, .e[633] = 111, .e[634] = 116, .e[635] = 32, .e[636] = 99, .e[637] = 108, .e[638] = 111, .e[639] = 115, .e[640] = 101, .e[641] = 100, .e[642] = 32, .e[643] = 111, .e[644] = 114, .e[645] = 32, .e[646] = 117, .e[647] = 110, .e[648] = 100, .e[649] = 101, .e[650] = 114, .e[651] = 32, .e[652] = 102, .e[653] = 111, .e[654] = 117, .e[655] = 114, .e[656] = 32, .e[657] = 112, .e[658] = 111, .e[659] = 115, .e[660] = 105, .e[661] = 116, .e[662] = 105, .e[663] = 111, .e[664] = 110, .e[665] = 115, .e[666] = 110, .e[667] = 101, .e[668] = 105, .e[669] = 103, .e[670] = 104, .e[671] = 98, .e[672] = 111, .e[673] = 117, .e[674] = 114, .e[675] = 115, .e[676] = 32, .e[677] = 109, .e[678] = 111, .e[679] = 114, .e[680] = 101, .e[681] = 32, .e[682] = 116, .e[683] = 104, .e[684] = 97, .e[685] = 110, .e[686] = 32, .e[687] = 111, .e[688] = 110, .e[689] = 101, .e[690] = 32, .e[691] = 100, .e[692] = 101, .e[693] = 103, .e[694] = 114, .e[695] = 101, .e[696] = 101, .e[697] = 32, .e[698] = 97, .e[699] = 112, .e[700] = 97, .e[701] = 114, .e[702] = 116, .e[703] = 111, .e[704] = 118, .e[705] = 101, .e[706] = 114, .e[707] = 32, .e[708] = 53, .e[709] = 49, .e[710] = 50, .e[711] = 32, .e[712] = 118, .e[713] = 101, .e[714] = 114, .e[715] = 116, .e[716] = 105, .e[717] = 99, .e[718] = 101, .e[719] = 115, .e[720] = 116, .e[721] = 119, .e[722] = 111, .e[723] = 32, .e[724] = 115, .e[725] = 105, .e[726] = 100, .e[727] = 101, .e[728] = 115, .e[729] = 32, .e[730] = 115, .e[731] = 104, .e[732] = 97, .e[733] = 114, .e[734] = 101, .e[735] = 32, .e[736] = 97, .e[737] = 32, .e[738] = 112, .e[739] = 111, .e[740] = 105, .e[741] = 110, .e[742] = 116, .e[743] = 98, .e[744] = 121, .e[745] = 116, .e[746] = 101, .e[747] = 115, .e[748] = 32, .e[749] = 108, .e[750] = 101, .e[751] = 102, .e[752] = 116, .e[753] = 32, .e[754] = 97, .e[755] = 102, .e[756] = 116, .e[757] = 101, .e[758] = 114, .e[759] = 32, .e[760] = 54, .e[761] = 52, .e[762] = 32, .e[763] = 115, .e[764] = 104, .e[765] = 101, .e[766] = 101, .e[767] = 116, .e[768] = 115, .e[769] = 117, .e[770] = 110, .e[771] = 107, .e[772] = 110, .e[773] = 111, .e[774] = 119, .e[775] = 110, .e[776] = 32, .e[777] = 110, .e[778] = 117, .e[779] = 109, .e[780] = 98, .e[781] = 101, .e[782] = 114};
+    l1 = (array_uint8_t_783){.e[0] = 100, .e[1] = 111, .e[2] = 110, .e[3] = 101, .e[4] = 105, .e[5] = 110, .e[6] = 115, .e[7] = 105, .e[8] = 100, .e[9] = 101, .e[10] = 111, .e[11] = 117, .e[12] = 116, .e[13] = 115, .e[14] = 105, .e[15] = 100, .e[16] = 101, .e[17] = 98, .e[18] = 111, .e[19] = 117, .e[20] = 110, .e[21] = 100, .e[22] = 97, .e[23] = 114, .e[24] = 121, .e[25] = 108, .e[26] = 105, .e[27] = 115, .e[28] = 116, .e[29] = 32, .e[30] = 111, .e[31] = 102, .e[32] = 32, .e[33] = 97, .e[34] = 32, .e[35] = 108, .e[36] = 101, .e[37] = 110, .e[38] = 103, .e[39] = 116, .e[40] = 104, .e[41] = 32, .e[42] = 110, .e[43] = 111, .e[44] = 116, .e[45] = 32, .e[46] = 97, .e[47] = 108, .e[48] = 108, .e[49] = 111, .e[50] = 119, .e[51] = 101, .e[52] = 100, .e[53] = 118, .e[54] = 101, .e[55] = 114, .e[56] = 116, .e[57] = 101, .e[58] = 120, .e[59] = 32, .e[60] = 98, .e[61] = 101, .e[62] = 121, .e[63] = 111, .e[64] = 110, .e[65] = 100, .e[66] = 32, .e[67] = 116, .e[68] = 104, .e[69] = 101, .e[70] = 32, .e[71] = 103, .e[72] = 114, .e[73] = 105, .e[74] = 100, .e[75] = 118, .e[76] = 101, .e[77] = 114, .e[78] = 116, .e[79] = 101, .e[80] = 120, .e[81] = 32, .e[82] = 97, .e[83] = 108, .e[84] = 108, .e[85] = 32, .e[86] = 122, .e[87] = 101, .e[88] = 114, .e[89] = 111, .e[90] = 115, .e[91] = 105, .e[92] = 100, .e[93] = 101, .e[94] = 39, .e[95] = 115, .e[96] = 32, .e[97] = 101, .e[98] = 110, .e[99] = 100, .e[100] = 115, .e[101] = 32, .e[102] = 105, .e[103] = 110, .e[104] = 32, .e[105] = 116, .e[106] = 104, .e[107] = 101, .e[108] = 32, .e[109] = 115, .e[110] = 97, .e[111] = 109, .e[112] = 101, .e[113] = 32, .e[114] = 100, .e[115] = 105, .e[116] = 114, .e[117] = 101, .e[118] = 99, .e[119] = 116, .e[120] = 105, .e[121] = 111, .e[122] = 110, .e[123] = 115, .e[124] = 105, .e[125] = 100, .e[126] = 101, .e[127] = 39, .e[128] = 115, .e[129] = 32, .e[130] = 101, .e[131] = 110, .e[132] = 100, .e[133] = 115, .e[134] = 32, .e[135] = 111, .e[136] = 112, .e[137] = 112, .e[138] = 111, .e[139] = 115, .e[140] = 105, .e[141] = 116, .e[142] = 101, .e[143] = 107, .e[144] = 110, .e[145] = 111, .e[146] = 119, .e[147] = 110, .e[148] = 32, .e[149] = 112, .e[150] = 111, .e[151] = 105, .e[152] = 110, .e[153] = 116, .e[154] = 32, .e[155] = 98, .e[156] = 101, .e[157] = 121, .e[158] = 111, .e[159] = 110, .e[160] = 100, .e[161] = 32, .e[162] = 116, .e[163] = 104, .e[164] = 101, .e[165] = 32, .e[166] = 103, .e[167] = 114, .e[168] = 105, .e[169] = 100, .e[170] = 32, .e[171] = 111, .e[172] = 114, .e[173] = 32, .e[174] = 97, .e[175] = 108, .e[176] = 108, .e[177] = 32, .e[178] = 122, .e[179] = 101, .e[180] = 114, .e[181] = 111, .e[182] = 107, .e[183] = 110, .e[184] = 111, .e[185] = 119, .e[186] = 110, .e[187] = 32, .e[188] = 112, .e[189] = 111, .e[190] = 105, .e[191] = 110, .e[192] = 116, .e[193] = 32, .e[194] = 111, .e[195] = 110, .e[196] = 32, .e[197] = 116, .e[198] = 104, .e[199] = 101, .e[200] = 32, .e[201] = 103, .e[202] = 114, .e[203] = 101, .e[204] = 97, .e[205] = 116, .e[206] = 32, .e[207] = 99, .e[208] = 105, .e[209] = 114, .e[210] = 99, .e[211] = 108, .e[212] = 101, .e[213] = 32, .e[214] = 111, .e[215] = 102, .e[216] = 32, .e[217] = 97, .e[218] = 32, .e[219] = 115, .e[220] = 105, .e[221] = 100, .e[222] = 101, .e[223] = 113, .e[224] = 117, .e[225] = 101, .e[226] = 114, .e[227] = 121, .e[228] = 32, .e[229] = 98, .e[230] = 101, .e[231] = 121, .e[232] = 111, .e[233] = 110, .e[234] = 100, .e[235] = 32, .e[236] = 116, .e[237] = 104, .e[238] = 101, .e[239] = 32, .e[240] = 103, .e[241] = 114, .e[242] = 105, .e[243] = 100, .e[244] = 32, .e[245] = 111, .e[246] = 114, .e[247] = 32, .e[248] = 97, .e[249] = 108, .e[250] = 108, .e[251] = 32, .e[252] = 122, .e[253] = 101, .e[254] = 114, .e[255] = 111, .e[256] = 113, .e[257] = 117, .e[258] = 101, .e[259] = 114, .e[260] = 121, .e[261] = 32, .e[262] = 111, .e[263] = 112, .e[264] = 112, .e[265] = 111, .e[266] = 115, .e[267] = 105, .e[268] = 116, .e[269] = 101, .e[270] = 32, .e[271] = 116, .e[272] = 104, .e[273] = 101, .e[274] = 32, .e[275] = 107, .e[276] = 110, .e[277] = 111, .e[278] = 119, .e[279] = 110, .e[280] = 32, .e[281] = 112, .e[282] = 111, .e[283] = 105, .e[284] = 110, .e[285] = 116, .e[286] = 110, .e[287] = 111, .e[288] = 32, .e[289] = 115, .e[290] = 101, .e[291] = 99, .e[292] = 111, .e[293] = 110, .e[294] = 100, .e[295] = 32, .e[296] = 107, .e[297] = 110, .e[298] = 111, .e[299] = 119, .e[300] = 110, .e[301] = 32, .e[302] = 112, .e[303] = 111, .e[304] = 105, .e[305] = 110, .e[306] = 116, .e[307] = 32, .e[308] = 116, .e[309] = 104, .e[310] = 97, .e[311] = 116, .e[312] = 32, .e[313] = 112, .e[314] = 97, .e[315] = 115, .e[316] = 115, .e[317] = 101, .e[318] = 115, .e[319] = 115, .e[320] = 104, .e[321] = 101, .e[322] = 101, .e[323] = 116, .e[324] = 32, .e[325] = 99, .e[326] = 117, .e[327] = 116, .e[328] = 32, .e[329] = 115, .e[330] = 104, .e[331] = 111, .e[332] = 114, .e[333] = 116, .e[334] = 119, .e[335] = 114, .e[336] = 111, .e[337] = 110, .e[338] = 103, .e[339] = 32, .e[340] = 116, .e[341] = 97, .e[342] = 103, .e[343] = 32, .e[344] = 105, .e[345] = 110, .e[346] = 32, .e[347] = 116, .e[348] = 104, .e[349] = 101, .e[350] = 32, .e[351] = 115, .e[352] = 104, .e[353] = 101, .e[354] = 101, .e[355] = 116, .e[356] = 108, .e[357] = 101, .e[358] = 110, .e[359] = 103, .e[360] = 116, .e[361] = 104, .e[362] = 32, .e[363] = 110, .e[364] = 111, .e[365] = 116, .e[366] = 32, .e[367] = 97, .e[368] = 108, .e[369] = 108, .e[370] = 111, .e[371] = 119, .e[372] = 101, .e[373] = 100, .e[374] = 32, .e[375] = 105, .e[376] = 110, .e[377] = 32, .e[378] = 116, .e[379] = 104, .e[380] = 101, .e[381] = 32, .e[382] = 115, .e[383] = 104, .e[384] = 101, .e[385] = 101, .e[386] = 116, .e[387] = 117, .e[388] = 110, .e[389] = 107, .e[390] = 110, .e[391] = 111, .e[392] = 119, .e[393] = 110, .e[394] = 32, .e[395] = 99, .e[396] = 104, .e[397] = 97, .e[398] = 114, .e[399] = 97, .e[400] = 99, .e[401] = 116, .e[402] = 101, .e[403] = 114, .e[404] = 32, .e[405] = 115, .e[406] = 101, .e[407] = 116, .e[408] = 98, .e[409] = 121, .e[410] = 116, .e[411] = 101, .e[412] = 115, .e[413] = 32, .e[414] = 97, .e[415] = 102, .e[416] = 116, .e[417] = 101, .e[418] = 114, .e[419] = 32, .e[420] = 116, .e[421] = 104, .e[422] = 101, .e[423] = 32, .e[424] = 108, .e[425] = 97, .e[426] = 115, .e[427] = 116, .e[428] = 32, .e[429] = 102, .e[430] = 105, .e[431] = 101, .e[432] = 108, .e[433] = 100, .e[434] = 98, .e[435] = 117, .e[436] = 102, .e[437] = 102, .e[438] = 101, .e[439] = 114, .e[440] = 32, .e[441] = 116, .e[442] = 111, .e[443] = 111, .e[444] = 32, .e[445] = 115, .e[446] = 104, .e[447] = 111, .e[448] = 114, .e[449] = 116, .e[450] = 32, .e[451] = 102, .e[452] = 111, .e[453] = 114, .e[454] = 32, .e[455] = 116, .e[456] = 104, .e[457] = 101, .e[458] = 32, .e[459] = 115, .e[460] = 104, .e[461] = 101, .e[462] = 101, .e[463] = 116, .e[464] = 113, .e[465] = 117, .e[466] = 101, .e[467] = 114, .e[468] = 121, .e[469] = 32, .e[470] = 111, .e[471] = 114, .e[472] = 32, .e[473] = 112, .e[474] = 111, .e[475] = 115, .e[476] = 105, .e[477] = 116, .e[478] = 105, .e[479] = 111, .e[480] = 110, .e[481] = 32, .e[482] = 99, .e[483] = 117, .e[484] = 116, .e[485] = 32, .e[486] = 111, .e[487] = 102, .e[488] = 102, .e[489] = 114, .e[490] = 101, .e[491] = 115, .e[492] = 117, .e[493] = 108, .e[494] = 116, .e[495] = 32, .e[496] = 98, .e[497] = 117, .e[498] = 102, .e[499] = 102, .e[500] = 101, .e[501] = 114, .e[502] = 32, .e[503] = 116, .e[504] = 111, .e[505] = 111, .e[506] = 32, .e[507] = 115, .e[508] = 104, .e[509] = 111, .e[510] = 114, .e[511] = 116, .e[512] = 103, .e[513] = 114, .e[514] = 105, .e[515] = 100, .e[516] = 32, .e[517] = 109, .e[518] = 105, .e[519] = 120, .e[520] = 101, .e[521] = 100, .e[522] = 32, .e[523] = 111, .e[524] = 114, .e[525] = 32, .e[526] = 117, .e[527] = 110, .e[528] = 107, .e[529] = 110, .e[530] = 111, .e[531] = 119, .e[532] = 110, .e[533] = 110, .e[534] = 111, .e[535] = 116, .e[536] = 32, .e[537] = 111, .e[538] = 110, .e[539] = 101, .e[540] = 32, .e[541] = 71, .e[542] = 101, .e[543] = 111, .e[544] = 74, .e[545] = 83, .e[546] = 79, .e[547] = 78, .e[548] = 32, .e[549] = 80, .e[550] = 111, .e[551] = 108, .e[552] = 121, .e[553] = 103, .e[554] = 111, .e[555] = 110, .e[556] = 32, .e[557] = 111, .e[558] = 102, .e[559] = 32, .e[560] = 116, .e[561] = 104, .e[562] = 101, .e[563] = 32, .e[564] = 107, .e[565] = 105, .e[566] = 110, .e[567] = 100, .e[568] = 32, .e[569] = 116, .e[570] = 104, .e[571] = 97, .e[572] = 116, .e[573] = 32, .e[574] = 105, .e[575] = 115, .e[576] = 32, .e[577] = 114, .e[578] = 101, .e[579] = 97, .e[580] = 100, .e[581] = 108, .e[582] = 97, .e[583] = 116, .e[584] = 105, .e[585] = 116, .e[586] = 117, .e[587] = 100, .e[588] = 101, .e[589] = 32, .e[590] = 112, .e[591] = 97, .e[592] = 115, .e[593] = 116, .e[594] = 32, .e[595] = 57, .e[596] = 48, .e[597] = 32, .e[598] = 111, .e[599] = 114, .e[600] = 32, .e[601] = 108, .e[602] = 111, .e[603] = 110, .e[604] = 103, .e[605] = 105, .e[606] = 116, .e[607] = 117, .e[608] = 100, .e[609] = 101, .e[610] = 32, .e[611] = 112, .e[612] = 97, .e[613] = 115, .e[614] = 116, .e[615] = 32, .e[616] = 49, .e[617] = 56, .e[618] = 48, .e[619] = 32, .e[620] = 100, .e[621] = 101, .e[622] = 103, .e[623] = 114, .e[624] = 101, .e[625] = 101, .e[626] = 115, .e[627] = 114, .e[628] = 105, .e[629] = 110, .e[630] = 103, .e[631] = 32, .e[632] = 110, .e[633] = 111, .e[634] = 116, .e[635] = 32, .e[636] = 99, .e[637] = 108, .e[638] = 111, .e[639] = 115, .e[640] = 101, .e[641] = 100, .e[642] = 32, .e[643] = 111, .e[644] = 114, .e[645] = 32, .e[646] = 117, .e[647] = 110, .e[648] = 100, .e[649] = 101, .e[650] = 114, .e[651] = 32, .e[652] = 102, .e[653] = 111, .e[654] = 117, .e[655] = 114, .e[656] = 32, .e[657] = 112, .e[658] = 111, .e[659] = 115, .e[660] = 105, .e[661] = 116, .e[662] = 105, .e[663] = 111, .e[664] = 110, .e[665] = 115, .e[666] = 110, .e[667] = 101, .e[668] = 105, .e[669] = 103, .e[670] = 104, .e[671] = 98, .e[672] = 111, .e[673] = 117, .e[674] = 114, .e[675] = 115, .e[676] = 32, .e[677] = 109, .e[678] = 111, .e[679] = 114, .e[680] = 101, .e[681] = 32, .e[682] = 116, .e[683] = 104, .e[684] = 97, .e[685] = 110, .e[686] = 32, .e[687] = 111, .e[688] = 110, .e[689] = 101, .e[690] = 32, .e[691] = 100, .e[692] = 101, .e[693] = 103, .e[694] = 114, .e[695] = 101, .e[696] = 101, .e[697] = 32, .e[698] = 97, .e[699] = 112, .e[700] = 97, .e[701] = 114, .e[702] = 116, .e[703] = 111, .e[704] = 118, .e[705] = 101, .e[706] = 114, .e[707] = 32, .e[708] = 53, .e[709] = 49, .e[710] = 50, .e[711] = 32, .e[712] = 118, .e[713] = 101, .e[714] = 114, .e[715] = 116, .e[716] = 105, .e[717] = 99, .e[718] = 101, .e[719] = 115, .e[720] = 116, .e[721] = 119, .e[722] = 111, .e[723] = 32, .e[724] = 115, .e[725] = 105, .e[726] = 100, .e[727] = 101, .e[728] = 115, .e[729] = 32, .e[730] = 115, .e[731] = 104, .e[732] = 97, .e[733] = 114, .e[734] = 101, .e[735] = 32, .e[736] = 97, .e[737] = 32, .e[738] = 112, .e[739] = 111, .e[740] = 105, .e[741] = 110, .e[742] = 116, .e[743] = 98, .e[744] = 121, .e[745] = 116, .e[746] = 101, .e[747] = 115, .e[748] = 32, .e[749] = 108, .e[750] = 101, .e[751] = 102, .e[752] = 116, .e[753] = 32, .e[754] = 97, .e[755] = 102, .e[756] = 116, .e[757] = 101, .e[758] = 114, .e[759] = 32, .e[760] = 54, .e[761] = 52, .e[762] = 32, .e[763] = 115, .e[764] = 104, .e[765] = 101, .e[766] = 101, .e[767] = 116, .e[768] = 115, .e[769] = 117, .e[770] = 110, .e[771] = 107, .e[772] = 110, .e[773] = 111, .e[774] = 119, .e[775] = 110, .e[776] = 32, .e[777] = 110, .e[778] = 117, .e[779] = 109, .e[780] = 98, .e[781] = 101, .e[782] = 114};
     l2 = (array_uint8_t_783 *)(void *)&l1;
     l0 = (*l2);
     return l0;
@@ -11066,6 +13956,21 @@ uint64_t spg_book_refused(const uint8_t *book, size_t book_len, uint32_t grid, i
     return (uint64_t)spargolutta__books__spg_book_refused(lent(book, book_len), (uint32_t)grid, (uint32_t)x, (uint32_t)y, (uint32_t)z);
 }
 
+uint32_t spg_book_feed_number(const uint8_t *book, size_t book_len, uint32_t grid, const uint8_t *queries, size_t queries_len, uint8_t *results, size_t results_len)
+{
+    return (uint32_t)spargolutta_books__spg_book_feed_number(lent(book, book_len), (uint32_t)grid, lent(queries, queries_len), lent(results, results_len));
+}
+
+size_t spg_book_feed_place(const uint8_t *book, size_t book_len, uint32_t grid, const uint8_t *queries, size_t queries_len, size_t results_len)
+{
+    return (size_t)spargolutta_books__spg_book_feed_place(lent(book, book_len), (uint32_t)grid, lent(queries, queries_len), (uint64_t)results_len);
+}
+
+uint32_t spg_book_feed_count(const uint8_t *book, size_t book_len, uint32_t grid, const uint8_t *queries, size_t queries_len, size_t results_len)
+{
+    return (uint32_t)spargolutta_books__spg_book_feed_count(lent(book, book_len), (uint32_t)grid, lent(queries, queries_len), (uint64_t)results_len);
+}
+
 uint32_t spg_book_next_number(const uint8_t *book, size_t book_len, size_t at)
 {
     return (uint32_t)spargolutta__books__spg_book_next_number(lent(book, book_len), (uint64_t)at);
@@ -11116,6 +14021,16 @@ size_t spg_import_place(const uint8_t *text, size_t text_len, uint32_t zone, uin
     return (size_t)spargolutta__imports__spg_import_place(lent(text, text_len), (uint32_t)zone, (uint32_t)charset, lent(name, name_len), (uint32_t)known_x, (uint32_t)known_y, (uint32_t)known_z, (uint64_t)sheet_len);
 }
 
+uint32_t spg_import_fine_number(const uint8_t *text, size_t text_len, uint32_t zone, uint32_t charset, const uint8_t *name, size_t name_len, int32_t known_x, int32_t known_y, int32_t known_z, uint8_t *sheet, size_t sheet_len)
+{
+    return (uint32_t)spargolutta__imports__spg_import_fine_number(lent(text, text_len), (uint32_t)zone, (uint32_t)charset, lent(name, name_len), (uint32_t)known_x, (uint32_t)known_y, (uint32_t)known_z, lent(sheet, sheet_len));
+}
+
+size_t spg_import_fine_place(const uint8_t *text, size_t text_len, uint32_t zone, uint32_t charset, const uint8_t *name, size_t name_len, int32_t known_x, int32_t known_y, int32_t known_z, size_t sheet_len)
+{
+    return (size_t)spargolutta__imports__spg_import_fine_place(lent(text, text_len), (uint32_t)zone, (uint32_t)charset, lent(name, name_len), (uint32_t)known_x, (uint32_t)known_y, (uint32_t)known_z, (uint64_t)sheet_len);
+}
+
 uint32_t spg_point_number(int32_t longitude, int32_t latitude)
 {
     return (uint32_t)spargolutta__imports__spg_point_number((uint32_t)longitude, (uint32_t)latitude);
@@ -11134,6 +14049,41 @@ int32_t spg_point_y(int32_t longitude, int32_t latitude)
 int32_t spg_point_z(int32_t longitude, int32_t latitude)
 {
     return (int32_t)signed32(spargolutta__imports__spg_point_z((uint32_t)longitude, (uint32_t)latitude));
+}
+
+uint32_t spg_point_on_number(int32_t longitude, int32_t latitude, uint32_t grid)
+{
+    return (uint32_t)spargolutta__imports__spg_point_on_number((uint32_t)longitude, (uint32_t)latitude, (uint32_t)grid);
+}
+
+int32_t spg_point_on_x(int32_t longitude, int32_t latitude, uint32_t grid)
+{
+    return (int32_t)signed32(spargolutta__imports__spg_point_on_x((uint32_t)longitude, (uint32_t)latitude, (uint32_t)grid));
+}
+
+int32_t spg_point_on_y(int32_t longitude, int32_t latitude, uint32_t grid)
+{
+    return (int32_t)signed32(spargolutta__imports__spg_point_on_y((uint32_t)longitude, (uint32_t)latitude, (uint32_t)grid));
+}
+
+int32_t spg_point_on_z(int32_t longitude, int32_t latitude, uint32_t grid)
+{
+    return (int32_t)signed32(spargolutta__imports__spg_point_on_z((uint32_t)longitude, (uint32_t)latitude, (uint32_t)grid));
+}
+
+uint32_t spg_points_number(const uint8_t *degrees, size_t degrees_len, uint32_t grid, uint8_t *points, size_t points_len)
+{
+    return (uint32_t)spargolutta__imports__spg_points_number(lent(degrees, degrees_len), (uint32_t)grid, lent(points, points_len));
+}
+
+size_t spg_points_place(const uint8_t *degrees, size_t degrees_len, uint32_t grid, size_t points_len)
+{
+    return (size_t)spargolutta__imports__spg_points_place(lent(degrees, degrees_len), (uint32_t)grid, (uint64_t)points_len);
+}
+
+size_t spg_points_count(const uint8_t *degrees, size_t degrees_len, uint32_t grid, size_t points_len)
+{
+    return (size_t)spargolutta__imports__spg_points_count(lent(degrees, degrees_len), (uint32_t)grid, (uint64_t)points_len);
 }
 
 uint32_t spg_write_number(uint32_t zone, uint32_t charset, const uint8_t *name, size_t name_len, int32_t known_x, int32_t known_y, int32_t known_z, int32_t second_x, int32_t second_y, int32_t second_z, const uint8_t *vertices, size_t vertices_len, uint32_t grid, uint8_t *sheet, size_t sheet_len)
@@ -11224,6 +14174,26 @@ uint32_t spg_vertices_number(const uint8_t *sheet, size_t sheet_len, uint8_t *ve
 size_t spg_vertices_place(const uint8_t *sheet, size_t sheet_len, size_t vertices_len)
 {
     return (size_t)spargolutta__filling__spg_vertices_place(lent(sheet, sheet_len), (uint64_t)vertices_len);
+}
+
+uint32_t spg_far_number(const uint8_t *sheet, size_t sheet_len)
+{
+    return (uint32_t)spargolutta__extents__spg_far_number(lent(sheet, sheet_len));
+}
+
+uint32_t spg_box_number(const uint8_t *sheet, size_t sheet_len, uint8_t *box, size_t box_len)
+{
+    return (uint32_t)spargolutta__extents__spg_box_number(lent(sheet, sheet_len), lent(box, box_len));
+}
+
+size_t spg_box_place(const uint8_t *sheet, size_t sheet_len, size_t box_len)
+{
+    return (size_t)spargolutta__extents__spg_box_place(lent(sheet, sheet_len), (uint64_t)box_len);
+}
+
+uint32_t spg_box_count(const uint8_t *sheet, size_t sheet_len, size_t box_len)
+{
+    return (uint32_t)spargolutta__extents__spg_box_count(lent(sheet, sheet_len), (uint64_t)box_len);
 }
 
 size_t spg_meaning_text(uint32_t number, uint8_t *text, size_t text_len)

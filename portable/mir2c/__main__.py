@@ -4,7 +4,7 @@
     python3 portable/mir2c --exports HEADER                     the names of the calls
 
 HEADER is include/spargolutta.h: the calls that it declares are the ones exported. FOLDER has NAME.rlib of proved
-crates, as `rt check` leaves them in target/rlib.
+crates, as `rt check` leaves them in target/rlib, and as the toolchain has those of its own library.
 """
 import sys
 

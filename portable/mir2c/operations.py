@@ -122,6 +122,12 @@ def shl(_, x, y, __):
     return wrapped('<<', x, y)
 
 
+@rule('op2', 'Shr')
+def shr(_, x, y, sign):
+    """By less than the width, which is proved; zeros come in."""
+    return wrapped('>>', x, y) if sign == 'Unsigned' else refuse('shift', sign)
+
+
 @rule('op2', 'Eq')
 def eq(_, x, y, __):
     return equality('==', x, y)
@@ -211,6 +217,13 @@ def count_ones(_, x, __):
 def float_neg(_, x, __):
     same(x.type, FLOAT)
     return Typed(f'(-{x.text})', FLOAT)
+
+
+@rule('op1', 'FloatToBits')
+def float_to_bits(_, x, __):
+    """The 64 bits of binary64: sign, exponent, digits."""
+    same(x.type, FLOAT)
+    return Typed(f'float_bits({x.text})', {'Int': 64})
 
 
 @rule('op1', 'FloatToInt')

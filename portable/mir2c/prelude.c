@@ -65,6 +65,14 @@ static inline uint32_t count_ones(uint64_t bits)
     return (uint32_t)(bits * UINT64_C(0x0101010101010101) >> 56);
 }
 
+/* The bits of a number, by a union, which C99 lets be read by another member. */
+static inline uint64_t float_bits(double number)
+{
+    union { double number; uint64_t bits; } both;
+    both.number = number;
+    return both.bits;
+}
+
 /* types */
 
 /* What a caller lends. NULL, which is allowed with length 0, becomes a pointer that C lets 0 be added to. */
