@@ -40,7 +40,7 @@ def main(seed, rounds):
         sys.exit(2)
     page = PAGE.format(module=packed('portable/spargolutta.mjs'), digest=packed('portable/wasm/digest.mjs'),
                        library=packed('target/wasm/spargolutta.wasm'), above=packed('target/wasm/digest.wasm'),
-                       sheet=packed('crates/zone_judge/data/zone.sheet'), seed=int(seed), rounds=int(rounds))
+                       sheet=packed('sample/octant/zone.sheet'), seed=int(seed), rounds=int(rounds))
     with tempfile.TemporaryDirectory() as folder:
         path = os.path.join(folder, 'page.html')
         with open(path, 'w', encoding='utf-8') as file:

@@ -27,8 +27,8 @@ fn portable_octant() {
     };
     alone(&["-O2", "-c", &source, "-o", &object]);
     alone(&[&client, &object, "-o", &program]);
-    let sheet = fs::read(repository("crates/zone_judge/data/zone.sheet")).expect("sheet");
-    let lines = fs::read_to_string(repository("crates/zone_judge/stdout")).expect("lines");
+    let sheet = fs::read(repository("sample/octant/zone.sheet")).expect("sheet");
+    let lines = "1 0 0\n3 0 0\n2 0 1\n18 0 0\n";
     assert_eq!(output_of(&mut Command::new(program), &sheet), lines);
 }
 
@@ -75,15 +75,15 @@ fn same_output(plain: &mut Command, name: &str, sheet: Option<&[u8]>, input: &[u
     ours
 }
 
-/// The octant, no queries, many of them, a cut one, a sheet that is refused, and none.
+/// The stored run, no queries, many of them, a cut one, a sheet that is refused, and none.
 #[test]
 fn portable_program() {
     let folder = Folder::new("portable-program");
     let plain = &mut plain_program(&folder);
     let sheet = fs::read(repository("crates/zone_judge/data/zone.sheet")).expect("sheet");
     let queries = fs::read(repository("crates/zone_judge/stdin")).expect("queries");
-    let octant = same_output(plain, "octant", Some(&sheet), &queries);
-    assert_eq!(octant.stdout, fs::read(repository("crates/zone_judge/stdout")).expect("lines"));
+    let stored = same_output(plain, "stored", Some(&sheet), &queries);
+    assert_eq!(stored.stdout, fs::read(repository("crates/zone_judge/stdout")).expect("lines"));
     same_output(plain, "none", Some(&sheet), &[]);
     let many: Vec<u8> = (0..9_001).flat_map(|i| point_bytes([i % 7 - 3, i % 5 - 2, i % 11 - 5])).collect();
     same_output(plain, "many", Some(&sheet), &many);
