@@ -78,6 +78,7 @@ static void put_octant(void)
                                          sheet, sizeof sheet);
     sheet_len = answer.place;
     print_answer("write", answer);
+    print("length", (unsigned long)spg_length_to_vertices(sheet, 1), 0, 0);
     print_bytes("sheet", sheet, sheet_len);
 }
 

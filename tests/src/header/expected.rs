@@ -114,6 +114,7 @@ impl Lines {
     fn written_octant(&mut self) {
         let sheet = octant().bytes();
         self.put("write", [0, 69, 0]);
+        self.put("length", [69, 0, 0]);
         self.bytes("sheet", &sheet);
     }
 }

@@ -27,11 +27,15 @@ fn on_sheet(random: &mut Random, sheet: &[u8]) -> Vec<(&'static str, Case)> {
         ("choose", case(sheet, &points[..48], 0, &[])),
         ("basin", case(&sheet[33..69], &[], 0, &[0])),
         ("book", case(&book, &[], 0, &[0, 3, 2, 1])),
+        ("book_feed", case(&book, &points, 2 * points.len(), &[0])),
         ("book_next", case(&book, &[], 0, &[sheet.len() as i32, 0])),
         ("compare", case(sheet, sheet, 0, &[])),
         ("write", case(&sheet[33..69], b"n", 84, &[7, 1, 1, 1, 1, 1, 1, 2, 0])),
         ("sheet", case(sheet, &[], 0, &[])),
         ("vertices", case(sheet, &[], sheet.len(), &[])),
+        ("far", case(sheet, &[], 0, &[])),
+        ("box", case(sheet, &[], 24, &[])),
+        ("points", case(&points, &[], 2 * points.len(), &[1])),
     ]
 }
 
