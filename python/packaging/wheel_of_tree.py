@@ -36,8 +36,11 @@ def _compile(into: Path) -> List[Path]:
         return [library]
     flags = ["--no-entry", "--stack-first", "-zstack-size=262144", "--gc-sections", "--strip-all",
              "--export=__heap_base", *(f"--export=spg_{call}" for call in _CALLS)]
-    subprocess.run(["clang", "--target=wasm32", "-std=c99", "-O2", "-ffreestanding", "-nostdlib", "-mbulk-memory",
-                    f"-I{include}", str(source), "-o", str(wasm), *(f"-Wl,{flag}" for flag in flags)], check=True)
+    # Linked by itself: clang would hand the result to wasm-opt, where that is installed, without the features in use.
+    compiled = into / "spargolutta.o"
+    subprocess.run(["clang", "--target=wasm32", "-std=c99", "-O2", "-ffreestanding", "-mbulk-memory", f"-I{include}",
+                    "-c", str(source), "-o", str(compiled)], check=True)
+    subprocess.run(["wasm-ld", *flags, str(compiled), "-o", str(wasm)], check=True)
     return [library, wasm]
 
 
