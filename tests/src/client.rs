@@ -19,7 +19,7 @@ pub fn flags() -> Vec<String> {
     vec![
         format!("-I{}", path("include")),
         format!("-L{}", env!("SPG_FOLDER")),
-        "-lspargolutta".to_string(),
+        "-l:libspargolutta.a".to_string(),
     ]
 }
 

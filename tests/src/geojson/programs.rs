@@ -47,5 +47,7 @@ fn geojson_stack() {
     let case = [row(text(&circle(4_097)).as_bytes()), row(b"A"), row(&vec![0; 49_304])].concat();
     let needed: usize = output_of(client.arg("stack"), &case).trim().parse().expect("bytes");
     println!("stack, import: {needed} bytes, those of starting a thread among them");
-    assert!(needed <= 60_000, "more than the room kept free below the promise");
+    // The archive keeps some room free below the promise, and the C form the promise.
+    let most = if env!("SPG_FOLDER").ends_with("portable") { 65_535 } else { 60_000 };
+    assert!(needed <= most, "more than the room kept free below the promise");
 }
