@@ -1,6 +1,7 @@
-//! Every stop against every harbour: a feed to a book beside a feed to each of its sheets. CPU time of the thread, least
-//! of the rounds; the sets have to be equal.
+//! Every stop against every harbour: a feed to a book beside a feed to each of its sheets. Processor time, the
+//! least of the rounds; the sets have to be equal.
 
+use crate::clock::seconds;
 use crate::table::{heading, judge, row, thousands};
 use spargolutta_tests::library;
 use spargolutta_tests::random::Random;
@@ -111,15 +112,20 @@ fn sheets_and_stops(work: &Work) -> (Vec<Vec<u8>>, Vec<u8>) {
     (sheets, points_bytes(&stops))
 }
 
-/// Seconds of the processor that this thread has had.
-fn cpu_time() -> f64 {
-    extern "C" {
-        fn clock_gettime(clock: i32, time: *mut [i64; 2]) -> i32;
+/// The sets by a feed to each sheet.
+fn by_each_sheet(sheets: &[Vec<u8>], queries: &[u8], each: &mut [u8], sets: &mut [[u64; 3]]) {
+    sets.fill([0; 3]);
+    for (zone, sheet) in sheets.iter().enumerate() {
+        assert_eq!(library::feed_number(sheet, queries, each), 0);
+        for (set, result) in sets.iter_mut().zip(each.chunks_exact(12)) {
+            match result[3] {
+                1 => set[0] |= 1 << zone,
+                2 => {}
+                3 => set[1] |= 1 << zone,
+                _ => set[2] |= 1 << zone,
+            }
+        }
     }
-    const THREAD: i32 = 3;
-    let mut time = [0; 2];
-    assert_eq!(unsafe { clock_gettime(THREAD, &mut time) }, 0);
-    time[0] as f64 + 1e-9 * time[1] as f64
 }
 
 /// Nanoseconds a stop: by one call, and by a feed to each sheet whose results are put into the same sets.
@@ -131,23 +137,9 @@ fn measure(work: &Work) -> [f64; 2] {
     let mut each = vec![0; 12 * n];
     let mut sets = vec![[0u64; 3]; n];
     for _ in 0..ROUNDS {
-        let start = cpu_time();
-        assert_eq!(library::book::feed_number(&book, grid, &queries, &mut results), 0);
-        let middle = cpu_time();
-        sets.fill([0; 3]);
-        for (zone, sheet) in sheets.iter().enumerate() {
-            assert_eq!(library::feed_number(sheet, &queries, &mut each), 0);
-            for (set, result) in sets.iter_mut().zip(each.chunks_exact(12)) {
-                match result[3] {
-                    1 => set[0] |= 1 << zone,
-                    2 => {}
-                    3 => set[1] |= 1 << zone,
-                    _ => set[2] |= 1 << zone,
-                }
-            }
-        }
-        let end = cpu_time();
-        least = [least[0].min(middle - start), least[1].min(end - middle)];
+        let ours = seconds(|| assert_eq!(library::book::feed_number(&book, grid, &queries, &mut results), 0));
+        let feeds = seconds(|| by_each_sheet(&sheets, &queries, &mut each, &mut sets));
+        least = [least[0].min(ours), least[1].min(feeds)];
     }
     let expected: Vec<u8> = sets.iter().flat_map(|set| set.map(u64::to_be_bytes).concat()).collect();
     assert!(results == expected, "{}: the sets differ", work.name);
@@ -155,7 +147,7 @@ fn measure(work: &Work) -> [f64; 2] {
 }
 
 pub fn compare() {
-    let title = format!("{SHEETS} zones, half the stops near one: ns of CPU time a stop, least of {ROUNDS} rounds");
+    let title = format!("{SHEETS} zones, half the stops near one: ns of processor time a stop, least of {ROUNDS} rounds");
     heading(&title, &["a feed to the book", "to each sheet"]);
     let times = WORKS.map(|work| {
         let times = measure(&work);
