@@ -8666,33 +8666,6 @@ static INLINE bool separation__planes__is_behind(slice_uint32_t l1, type_separat
     return l0;
 }
 
-static INLINE bool separation__planes__is_opposite(type_sphere__point__Point l1, type_sphere__point__Point l2)
-{
-    bool l0;
-    uint64_t l3;
-    uint64_t l4;
-    uint64_t l5;
-    uint64_t l6;
-    uint64_t l7;
-    uint64_t l8;
-    uint64_t l9;
-    bool l10;
-    l3 = l1.f0;
-    l4 = l1.f1;
-    l5 = l2.f0;
-    l6 = l2.f1;
-    l7 = (l3 * l6);
-    l8 = (l4 * l5);
-    l9 = (l7 - l8);
-    l10 = (l9 != UINT64_C(0));
-    if (l10) {
-        l0 = false;
-        return l0;
-    }
-    l0 = sphere__direction__antipodal(l1, l2);
-    return l0;
-}
-
 static INLINE bool separation__planes__is_separated(type_sphere__point__Grid l1, slice_uint32_t l2, type_separation__planes__Planes l3, type_sphere__point__Point l4, type_sphere__point__Point l5)
 {
     bool l0;
@@ -8706,7 +8679,7 @@ static INLINE bool separation__planes__is_separated(type_sphere__point__Grid l1,
     }
     l7 = separation__planes__is_behind(l2, l3, l5);
     if (l7) {
-        l8 = separation__planes__is_opposite(l4, l5);
+        l8 = sphere__direction__antipodal(l4, l5);
         l0 = !l8;
         return l0;
     }
