@@ -4,7 +4,7 @@ use Prim.Native.Nat.{ℕ, zero, suc, ◌+◌, ◌-◌, ◌*◌, ◌≤◌, ◌<�
 use native.Mathlib.Nat.{le_refl, mul-le-mul_right, mul-le-mul_left, mul-le-mul, mul-sub}
 use native.Mathlib.Omega.{arith}
 use Rattle.angles.specs.Series.{den, num}
-use Rattle.angles.proofs.Near.{num-le, six}
+use Rattle.angles.proofs.Near.{num_le, six}
 
 cut : (a b c d : ℕ) → a + d ≤ c + b → a - b ≤ c - d
 cut a b c d h = omega arith
@@ -31,5 +31,5 @@ module _ (p u q : ℕ) (small : p + u ≤ 3 * q) where
       let i = both n g (omega arith) in (
         cut (den q f (suc n)) ((p + u) * num (p + u) q g n) (den q f (suc n)) (p * num p q g n) (omega (arith, i.1)),
         rise p u q (f * suc f) (num p q g n) (num (p + u) q g n) (den q g n) small (six f h) i.0
-            (num-le (p + u) q g n),
+            (num_le (p + u) q g n),
       )

@@ -1,5 +1,5 @@
 -- Document 01, 'What comes back': an answer is a number, a place and a count; and document 02, P6: a sum. Defined, in
--- order: number_of, place_of, count_of, sum_of, answerAfter. They are the one meaning of `Answer`: each promise uses them.
+-- order: number_of, place_of, count_of, sum_of, answer_after. They are the one meaning of `Answer`: each promise uses them.
 use Rattle.std.specs.Prelude.{ℕ, ℤ, pos}
 use Rattle.answer.specs.declared.Answer.{Answer}
 use Rattle.answer.specs.declared.Answer.TheVariants.{Done, Inside, Outside, Boundary, Refused}
@@ -36,6 +36,6 @@ sum_of (Boundary edge) = pos 0
 sum_of (Refused number place) = pos 0
 
 -- The answer a, if the checks passed.
-abbrev pub answerAfter : Check → Answer → Answer
-answerAfter Passed a = a
-answerAfter (Failed number place) a = Refused number place
+abbrev pub answer_after : Check → Answer → Answer
+answer_after Passed a = a
+answer_after (Failed number place) a = Refused number place

@@ -3,7 +3,7 @@
 // by index, chains of checks and what a buffer holds after a refusal are defined there too, with their laws.
 ghost use Rattle.std.specs.Prelude.{◌≡◌};
 ghost use Rattle.answer.specs.Answer.{number_of, place_of, count_of, sum_of};
-ghost use Rattle.answer.specs.Chain.{failsIf};
+ghost use Rattle.answer.specs.Chain.{fails_if};
 
 // What a search over vertices or edges finds: nothing, or the lowest number that passes the test.
 #[derive(Drop)]
@@ -80,7 +80,7 @@ pub fn sum(answer: Answer) -> i32
 
 // A check of one thing, with place 0.
 pub fn fails_if(number: u32, bad: bool) -> Check
-    ensures { result ≡ failsIf number bad }
+    ensures { result ≡ fails_if number bad }
 {
     if bad {
         return Check::Failed(number, 0);

@@ -1,12 +1,12 @@
 -- Directions about the reference point as numbers: for the code alone. Defined, in order: seen (how large the
--- coordinates are), quarterOf, part_of, acrossOf, azimuthBy, azimuthOf, gap_of; Aside (a point that has a direction),
+-- coordinates are), quarter_of, part_of, across_of, azimuth_by, azimuth_of, gap_of; Aside (a point that has a direction),
 -- AsideIf, FrameAt.
 use Rattle.std.specs.Prelude.{◌≡◌, Bool, true, false, ℕ, ◌+◌, ◌*◌, ◌-◌, ◌/◌, ◌%◌, ◌<◌, ℤ, pos, nat_abs, ◌*ℤ◌}
 use Prim.{Unit}
-use Rattle.integers.specs.Sign.{sign_of, isNegative}
+use Rattle.integers.specs.Sign.{sign_of, is_negative}
 use Rattle.sphere.specs.declared.point.Point.{Point}
 use Rattle.sphere.specs.Point.{Within}
-use Rattle.sphere.specs.Orientation.{cross_of, dotOf}
+use Rattle.sphere.specs.Orientation.{cross_of, dot_of}
 use Rattle.azimuths.specs.declared.azimuth.Frame.{Frame}
 
 -- A dot product of two points of the fine grid is at most this in size: 3 * 2^52.
@@ -14,31 +14,31 @@ abbrev pub seen : ℕ
 seen = 13510798882111488
 
 -- The first azimuth of a quarter turn, by whether the two coordinates are negative.
-abbrev pub quarterOf : Bool → Bool → ℕ
-quarterOf false false = 0
-quarterOf true false = 16384
-quarterOf true true = 32768
-quarterOf false true = 49152
+abbrev pub quarter_of : Bool → Bool → ℕ
+quarter_of false false = 0
+quarter_of true false = 16384
+quarter_of true true = 32768
+quarter_of false true = 49152
 
 -- How far a direction is into its quarter: 0 at its start, 16384 at its end. Of its two sizes the one that grows is b.
 abbrev pub part_of : ℕ → ℕ → ℕ
 part_of b d = b * 16384 / d
 
-abbrev pub acrossOf : Bool → Bool → ℕ → ℕ → ℕ
-acrossOf false false a b = b
-acrossOf true false a b = a
-acrossOf true true a b = b
-acrossOf false true a b = a
+abbrev pub across_of : Bool → Bool → ℕ → ℕ → ℕ
+across_of false false a b = b
+across_of true false a b = a
+across_of true true a b = b
+across_of false true a b = a
 
 -- By the coordinates along east and north.
-unfoldable pub azimuthBy : ℤ → ℤ → ℕ
-azimuthBy u v =
-    let west = isNegative (sign_of u) in
-    let south = isNegative (sign_of v) in
-    quarterOf west south + part_of (acrossOf west south (nat_abs u) (nat_abs v)) (nat_abs u + nat_abs v)
+unfoldable pub azimuth_by : ℤ → ℤ → ℕ
+azimuth_by u v =
+    let west = is_negative (sign_of u) in
+    let south = is_negative (sign_of v) in
+    quarter_of west south + part_of (across_of west south (nat_abs u) (nat_abs v)) (nat_abs u + nat_abs v)
 
-unfoldable pub azimuthOf : Frame → Point → ℕ
-azimuthOf F P = azimuthBy (dotOf F.east P) (dotOf F.north P)
+unfoldable pub azimuth_of : Frame → Point → ℕ
+azimuth_of F P = azimuth_by (dot_of F.east P) (dot_of F.north P)
 
 -- How far azimuth a is after azimuth b, going round.
 abbrev pub gap_of : ℕ → ℕ → ℕ
@@ -46,7 +46,7 @@ gap_of a b = (a + 65536 - b) % 65536
 
 -- P is neither in the direction of the reference point nor opposite.
 pub record Aside (F : Frame) (P : Point) : Type 0 where
-  pub seen-from : dotOf F.east P ≡ pos 0 → dotOf F.north P ≡ pos 0 → ⊥
+  pub seen_from : dot_of F.east P ≡ pos 0 → dot_of F.north P ≡ pos 0 → ⊥
 
 -- By its coordinates, where a test says so.
 abbrev pub AsideIf : ℤ → ℤ → Bool → Type 0
@@ -58,6 +58,6 @@ pub record FrameAt (X : Point) (F : Frame) : Type 0 where
   pub times : ℕ
   pub at_x : (cross_of F.east F.north).x ≡ pos times *ℤ X.x
   pub at_y : (cross_of F.east F.north).y ≡ pos times *ℤ X.y
-  pub at-z : (cross_of F.east F.north).z ≡ pos times *ℤ X.z
+  pub at_z : (cross_of F.east F.north).z ≡ pos times *ℤ X.z
   pub some : 0 < times
   pub within : (limit : ℕ) → Within limit X → Within limit F.east × Within limit F.north

@@ -3,7 +3,7 @@
 // arc to one point the other lies. Here, in order: Frame, size, turned, frame_of; choose, quarter, part, azimuth_by.
 ghost use Rattle.std.specs.Prelude.{◌≡◌, cond, false, ◌*◌, ◌/◌, ◌≤◌, ◌<◌, nat_abs};
 ghost use Rattle.sphere.specs.Point.{fine, Fits, Within, is_null};
-ghost use Rattle.azimuths.specs.Azimuth.{seen, quarterOf, azimuthBy, FrameAt};
+ghost use Rattle.azimuths.specs.Azimuth.{seen, quarter_of, azimuth_by, FrameAt};
 
 use sphere::point::Point;
 
@@ -76,7 +76,7 @@ pub(crate) fn choose(first: bool, a: usize, b: usize) -> usize
 
 // The first azimuth of a quarter turn, by whether the coordinates along east and north are negative.
 fn quarter(u: bool, v: bool) -> usize
-    ensures { result ≡ quarterOf u v }
+    ensures { result ≡ quarter_of u v }
 {
     if v {
         if u {
@@ -105,7 +105,7 @@ fn part(b: usize, d: usize) -> usize
 // By the coordinates along east and north.
 pub fn azimuth_by(u: i64, v: i64) -> usize
     requires { Fits seen u × Fits seen v }
-    ensures { result ≡ azimuthBy u v }
+    ensures { result ≡ azimuth_by u v }
 {
     let a = size(u);
     let b = size(v);

@@ -4,14 +4,14 @@
 // azimuth early. Here, in order: wide, gap; Sector, sector_of, put_number, azimuth, turns_left, put_sectors;
 // is_missed_at, is_missed, is_passed; Passage, passage_at.
 ghost use Rattle.std.specs.Prelude.{◌≡◌, ◌+◌, ◌*◌, ◌≤◌, ◌<◌, length, set};
-ghost use Rattle.sphere.specs.Point.{limitOf, Within};
+ghost use Rattle.sphere.specs.Point.{limit_of, Within};
 ghost use Rattle.answer.specs.declared.Check.TheVariants.{Passed};
 ghost use Rattle.polygon.specs.Accepted.{Listed, Gridded};
-ghost use Rattle.polygon.specs.Checks.{acceptCheck};
-ghost use Rattle.polygon.specs.Vertices.{vertexCount, start_of, end_of};
-ghost use Rattle.azimuths.specs.Azimuth.{gap_of, azimuthOf, FrameAt};
-ghost use Rattle.azimuths.specs.Sectors.{turn_of, sectorStart, sectorWidth, isLeft, FrameWithin, SectorsOf};
-ghost use Rattle.azimuths.specs.Sectors.{isMissedAt, isMissed, isInside, turnsLeft};
+ghost use Rattle.polygon.specs.Checks.{accept_check};
+ghost use Rattle.polygon.specs.Vertices.{vertices_count, start_of, end_of};
+ghost use Rattle.azimuths.specs.Azimuth.{gap_of, azimuth_of, FrameAt};
+ghost use Rattle.azimuths.specs.Sectors.{turn_of, sector_start, sector_width, is_left, FrameWithin, SectorsOf};
+ghost use Rattle.azimuths.specs.Sectors.{is_missed_at, is_missed, is_inside, turns_left};
 
 use crate::azimuth::{Frame, azimuth_by, choose};
 use polygon::vertices::{end_of, vertex_at};
@@ -43,7 +43,7 @@ struct Sector {
 // From the first azimuth to the second; where the edge does not turn left, from the second to the first.
 fn sector_of(first: usize, second: usize, left: bool) -> Sector
     requires { (first < 65536) × (second < 65536) × (turn_of «left» first second < 65535) }
-    ensures { (result.start ≡ sectorStart «left» first second) × (result.width ≡ sectorWidth «left» first second)
+    ensures { (result.start ≡ sector_start «left» first second) × (result.width ≡ sector_width «left» first second)
         × (result.start < 65536) × (result.width < 65536) }
 {
     let from = choose(left, first, second);
@@ -64,24 +64,24 @@ pub fn put_number(list: &mut [u16], at: usize, n: usize)
 
 fn azimuth(frame: Frame, p: Point) -> usize
     requires { FrameWithin frame p }
-    ensures { (result ≡ azimuthOf frame p) × (result < 65536) }
+    ensures { (result ≡ azimuth_of frame p) × (result < 65536) }
 {
     azimuth_by(dot(frame.east, p), dot(frame.north, p))
 }
 
 // The reference point is on the left of edge i.
 fn turns_left(grid: Grid, vertices: &[i32], known: Point, i: usize) -> bool
-    requires { Listed vertices.now × Gridded (limitOf grid) vertices.now × Within (limitOf grid) known
-        × (i < vertexCount vertices.now) }
-    ensures { result ≡ isLeft known (start_of vertices.now i) (end_of vertices.now i) }
+    requires { Listed vertices.now × Gridded (limit_of grid) vertices.now × Within (limit_of grid) known
+        × (i < vertices_count vertices.now) }
+    ensures { result ≡ is_left known (start_of vertices.now i) (end_of vertices.now i) }
 {
     turn(grid, vertex_at(vertices, i), end_of(vertices, i), known) > 0
 }
 
 // The sectors of all edges.
 pub fn put_sectors(grid: Grid, vertices: &[i32], known: Point, frame: Frame, sectors: &mut [u16])
-    requires { (acceptCheck (limitOf grid) vertices.now known ≡ Passed) × FrameAt known frame
-        × (vertexCount vertices.now * 2 ≤ length sectors.old) }
+    requires { (accept_check (limit_of grid) vertices.now known ≡ Passed) × FrameAt known frame
+        × (vertices_count vertices.now * 2 ≤ length sectors.old) }
     ensures { SectorsOf vertices.now known frame sectors.new }
 {
     let n = vertices.len() / 3;
@@ -98,7 +98,7 @@ pub fn put_sectors(grid: Grid, vertices: &[i32], known: Point, frame: Frame, sec
 // Edge i does not span azimuth k.
 pub fn is_missed_at(sectors: &[u16], k: usize, i: usize) -> bool
     requires { (i * 2 + 2 ≤ length sectors.now) × (k < 65536) }
-    ensures { result ≡ isMissedAt sectors.now k i }
+    ensures { result ≡ is_missed_at sectors.now k i }
 {
     gap(k, wide(sectors[i * 2])) > wide(sectors[i * 2 + 1])
 }
@@ -106,7 +106,7 @@ pub fn is_missed_at(sectors: &[u16], k: usize, i: usize) -> bool
 // Nor any from lo to last. The tests are joined without a branch.
 pub fn is_missed(sectors: &[u16], lo: usize, last: usize, i: usize) -> bool
     requires { (i * 2 + 2 ≤ length sectors.now) × (lo ≤ last) × (last < 65536) }
-    ensures { result ≡ isMissed sectors.now lo last i }
+    ensures { result ≡ is_missed sectors.now lo last i }
 {
     let start = wide(sectors[i * 2]);
     let width = wide(sectors[i * 2 + 1]);
@@ -134,7 +134,7 @@ pub struct Passage {
 // The tests are joined without a branch.
 pub fn passage_at(sectors: &[u16], k: usize, i: usize) -> Passage
     requires { (i * 2 + 2 ≤ length sectors.now) × (k < 65536) }
-    ensures { (result.inside ≡ isInside sectors.now k i) × (result.left ≡ turnsLeft sectors.now i) }
+    ensures { (result.inside ≡ is_inside sectors.now k i) × (result.left ≡ turns_left sectors.now i) }
 {
     let start = wide(sectors[i * 2]);
     let along = gap(k, start);

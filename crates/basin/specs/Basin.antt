@@ -1,47 +1,47 @@
 -- Document 02, P9: the basin profile's answer to any list of numbers and any number of a grid. Defined, in order:
--- basinNumberOf, basinPlaceOf, basinCountOf (the one meaning of `Basin`: it alone has a count in a refusal);
--- basinCheck (10, 28, 11 to 14, 34), basinAfter (35), basinOf.
+-- basin_number_of, basin_place_of, basin_count_of (the one meaning of `Basin`: it alone has a count in a refusal);
+-- basin_check (10, 28, 11 to 14, 34), basin_after (35), basin_of.
 use Rattle.std.specs.Prelude.{not, List, ℕ, ltb, ℤ}
-use Rattle.sphere.specs.Point.{limitOf, isGridNumber, gridNumbered}
+use Rattle.sphere.specs.Point.{limit_of, is_grid_number, grid_numbered}
 use Rattle.answer.specs.declared.Check.{Check}
 use Rattle.answer.specs.declared.Check.TheVariants.{Passed, Failed}
-use Rattle.answer.specs.Chain.{◌then◌, failsIf}
-use Rattle.polygon.specs.Vertices.{vertexCount}
-use Rattle.polygon.specs.Checks.{polygonCheck}
-use Rattle.polygon.specs.Grids.{gridCheck}
+use Rattle.answer.specs.Chain.{◌then◌, fails_if}
+use Rattle.polygon.specs.Vertices.{vertices_count}
+use Rattle.polygon.specs.Checks.{polygon_check}
+use Rattle.polygon.specs.Grids.{grid_check}
 use Rattle.basin.specs.declared.profile.Basin.{Basin}
 use Rattle.basin.specs.declared.profile.Basin.TheVariants.{Simple, Sharing, Refused}
 use Rattle.basin.specs.declared.pairs.FirstPair.{FirstPair}
 use Rattle.basin.specs.declared.pairs.FirstPair.TheVariants.{Apart, Pair}
-use Rattle.basin.specs.Pairs.{firstPairOf}
+use Rattle.basin.specs.Pairs.{first_pair_of}
 
-abbrev pub basinNumberOf : Basin → ℕ
-basinNumberOf Simple = 0
-basinNumberOf (Sharing first second) = 35
-basinNumberOf (Refused number place) = number
+abbrev pub basin_number_of : Basin → ℕ
+basin_number_of Simple = 0
+basin_number_of (Sharing first second) = 35
+basin_number_of (Refused number place) = number
 
-abbrev pub basinPlaceOf : Basin → ℕ
-basinPlaceOf Simple = 0
-basinPlaceOf (Sharing first second) = first
-basinPlaceOf (Refused number place) = place
+abbrev pub basin_place_of : Basin → ℕ
+basin_place_of Simple = 0
+basin_place_of (Sharing first second) = first
+basin_place_of (Refused number place) = place
 
-abbrev pub basinCountOf : Basin → ℕ
-basinCountOf Simple = 0
-basinCountOf (Sharing first second) = second
-basinCountOf (Refused number place) = 0
+abbrev pub basin_count_of : Basin → ℕ
+basin_count_of Simple = 0
+basin_count_of (Sharing first second) = second
+basin_count_of (Refused number place) = 0
 
 -- 10, 28, 11 to 14, 34.
-unfoldable pub basinCheck : ℕ → List ℤ → Check
-basinCheck g vs =
-    gridCheck vs (not (isGridNumber g))
-    then polygonCheck (limitOf (gridNumbered g)) vs
-    then failsIf 34 (ltb 512 (vertexCount vs))
+unfoldable pub basin_check : ℕ → List ℤ → Check
+basin_check g vs =
+    grid_check vs (not (is_grid_number g))
+    then polygon_check (limit_of (grid_numbered g)) vs
+    then fails_if 34 (ltb 512 (vertices_count vs))
 
 -- And 35.
-abbrev pub basinAfter : Check → FirstPair → Basin
-basinAfter (Failed number place) pair = Refused number place
-basinAfter Passed Apart = Simple
-basinAfter Passed (Pair first second) = Sharing first second
+abbrev pub basin_after : Check → FirstPair → Basin
+basin_after (Failed number place) pair = Refused number place
+basin_after Passed Apart = Simple
+basin_after Passed (Pair first second) = Sharing first second
 
-unfoldable pub basinOf : ℕ → List ℤ → Basin
-basinOf g vs = basinAfter (basinCheck g vs) (firstPairOf vs)
+unfoldable pub basin_of : ℕ → List ℤ → Basin
+basin_of g vs = basin_after (basin_check g vs) (first_pair_of vs)

@@ -2,13 +2,13 @@
 // A row is an edge with those after it: its plane is made once, and the side of each vertex worked out once.
 ghost use Rattle.std.specs.Prelude.{◌≡◌, ◌&&◌, ◌+◌, ◌≤◌, ◌<◌, eqb};
 ghost use Rattle.integers.specs.Sign.{sign_of};
-ghost use Rattle.sphere.specs.Point.{limitOf};
+ghost use Rattle.sphere.specs.Point.{limit_of};
 ghost use Rattle.sphere.specs.Plane.{Sound};
 ghost use Rattle.answer.specs.declared.Check.TheVariants.{Passed};
 ghost use Rattle.polygon.specs.Accepted.{Gridded};
-ghost use Rattle.polygon.specs.Checks.{polygonCheck};
-ghost use Rattle.polygon.specs.Vertices.{vertexCount};
-ghost use Rattle.basin.specs.Pairs.{isOffending, firstPairOf, Sides, side_of, NearFrom};
+ghost use Rattle.polygon.specs.Checks.{polygon_check};
+ghost use Rattle.polygon.specs.Vertices.{vertices_count};
+ghost use Rattle.basin.specs.Pairs.{is_offending, first_pair_of, Sides, side_of, NearFrom};
 
 use crate::shared::{Edge, shares, shares_beyond};
 use polygon::vertices::{end_of, vertex_at};
@@ -36,9 +36,9 @@ fn closes(n: usize, i: usize, j: usize) -> bool
 
 // The full test of edge i and the later edge j, whose ends have the sides s1 and s2.
 fn offends(grid: Grid, vertices: &[i32], i: usize, j: usize, s1: i64, s2: i64) -> bool
-    requires vertices_value { polygonCheck (limitOf grid) vertices.now ≡ Passed }
-    requires i_lt_j { (i < j) × (j < vertexCount vertices.now) × Sides vertices.now i j s1 s2 }
-    ensures { result ≡ isOffending vertices.now i j }
+    requires vertices_value { polygon_check (limit_of grid) vertices.now ≡ Passed }
+    requires i_lt_j { (i < j) × (j < vertices_count vertices.now) × Sides vertices.now i j s1 s2 }
+    ensures { result ≡ is_offending vertices.now i j }
 {
     let a = vertex_at(vertices, i);
     let b = end_of(vertices, i);
@@ -71,8 +71,8 @@ struct Near {
 // this is the inner loop, a vertex a turn. `side` is that of vertex j. The last edge ends at vertex 0, whose side is
 // `closing`. A loop of its own, so that the compiled one holds nothing of the full test.
 fn next_near(vertices: &[i32], plane: Plane, closing: i64, j: usize, side: i64, last: usize) -> Near
-    requires gridded { Gridded (limitOf plane.grid) vertices.now × Sound plane × (vertexCount vertices.now ≤ 4096) }
-    requires j_le_last { (j ≤ last) × (last + 1 ≡ vertexCount vertices.now) }
+    requires gridded { Gridded (limit_of plane.grid) vertices.now × Sound plane × (vertices_count vertices.now ≤ 4096) }
+    requires j_le_last { (j ≤ last) × (last + 1 ≡ vertices_count vertices.now) }
     requires side_value { (sign_of side ≡ sign_of (side_of vertices.now plane.normal j))
         × (sign_of closing ≡ sign_of (side_of vertices.now plane.normal 0)) }
     ensures { NearFrom vertices.now plane.normal j last result }
@@ -100,8 +100,8 @@ fn next_near(vertices: &[i32], plane: Plane, closing: i64, j: usize, side: i64, 
 
 // The lowest first edge, then the lowest second one; the search stops there. Vertex i + 1 lies in the plane of its row.
 pub(crate) fn first_pair(grid: Grid, vertices: &[i32]) -> FirstPair
-    requires { polygonCheck (limitOf grid) vertices.now ≡ Passed }
-    ensures { result ≡ firstPairOf vertices.now }
+    requires { polygon_check (limit_of grid) vertices.now ≡ Passed }
+    ensures { result ≡ first_pair_of vertices.now }
 {
     let last = vertices.len() / 3 - 1;
     let mut i: usize = 0;

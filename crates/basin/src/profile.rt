@@ -1,8 +1,8 @@
 // The basin profile of any list of numbers. Here, in order: Basin, basin_number, basin_place, basin_count; basin_check,
 // answer_by, check_basin.
 ghost use Rattle.std.specs.Prelude.{◌≡◌};
-ghost use Rattle.basin.specs.Basin.{basinNumberOf, basinPlaceOf, basinCountOf};
-ghost use Rattle.basin.specs.Basin.{basinCheck, basinOf};
+ghost use Rattle.basin.specs.Basin.{basin_number_of, basin_place_of, basin_count_of};
+ghost use Rattle.basin.specs.Basin.{basin_check, basin_of};
 
 use crate::pairs::{FirstPair, first_pair};
 use answer::{Check, fails_if};
@@ -20,7 +20,7 @@ pub enum Basin {
 }
 
 pub fn basin_number(basin: Basin) -> u32
-    ensures { result ≡ basinNumberOf basin }
+    ensures { result ≡ basin_number_of basin }
 {
     match basin {
         Basin::Simple => 0,
@@ -30,7 +30,7 @@ pub fn basin_number(basin: Basin) -> u32
 }
 
 pub fn basin_place(basin: Basin) -> usize
-    ensures { result ≡ basinPlaceOf basin }
+    ensures { result ≡ basin_place_of basin }
 {
     match basin {
         Basin::Simple => 0,
@@ -40,7 +40,7 @@ pub fn basin_place(basin: Basin) -> usize
 }
 
 pub fn basin_count(basin: Basin) -> u32
-    ensures { result ≡ basinCountOf basin }
+    ensures { result ≡ basin_count_of basin }
 {
     match basin {
         Basin::Simple => 0,
@@ -51,7 +51,7 @@ pub fn basin_count(basin: Basin) -> u32
 
 // 10, 28, 11 to 14, 34.
 fn basin_check(vertices: &[i32], grid: u32) -> Check
-    ensures { result ≡ basinCheck grid vertices.now }
+    ensures { result ≡ basin_check grid vertices.now }
 {
     match grid_check(vertices, grid > 1) {
         Check::Passed => {}
@@ -66,7 +66,7 @@ fn basin_check(vertices: &[i32], grid: u32) -> Check
 
 // Document 02's check. Any numbers, any grid; nothing is written.
 pub fn check_basin(vertices: &[i32], grid: u32) -> Basin
-    ensures { result ≡ basinOf grid vertices.now }
+    ensures { result ≡ basin_of grid vertices.now }
 {
     match basin_check(vertices, grid) {
         Check::Passed => {}

@@ -3,13 +3,13 @@
 ghost use Rattle.std.specs.Prelude.{◌≡◌, ◌+◌, ◌*◌, ◌≤◌, length};
 ghost use Rattle.std.proofs.lemmas.List.Edits.{sets};
 ghost use Rattle.sphere.specs.Point.{Fits, Within};
-ghost use Rattle.big_endian.specs.Bytes.{shortBytes, word_bytes, word_of, intBytes, intsBytes, pointBytes};
+ghost use Rattle.big_endian.specs.Bytes.{short_bytes, word_bytes, word_of, int_bytes, ints_bytes, point_bytes};
 
 use sphere::point::Point;
 
 pub fn put_short(b: &mut [u8], at: usize, n: u32)
     requires { at + 2 ≤ length b.old }
-    ensures { b.new ≡ sets b.old at (shortBytes n) }
+    ensures { b.new ≡ sets b.old at (short_bytes n) }
 {
     b[at] = (n / 256 % 256) as u8;
     b[at + 1] = (n % 256) as u8;
@@ -38,7 +38,7 @@ pub fn to_word(x: i32) -> u32
 
 fn put_int(b: &mut [u8], at: usize, x: i32)
     requires { at + 4 ≤ length b.old }
-    ensures { b.new ≡ sets b.old at (intBytes x) }
+    ensures { b.new ≡ sets b.old at (int_bytes x) }
 {
     put_word(b, at, to_word(x))
 }
@@ -46,7 +46,7 @@ fn put_int(b: &mut [u8], at: usize, x: i32)
 // One of a point's wide numbers.
 fn put_coordinate(b: &mut [u8], at: usize, x: i64)
     requires { (at + 4 ≤ length b.old) × Fits 2147483647 x }
-    ensures { b.new ≡ sets b.old at (intBytes x) }
+    ensures { b.new ≡ sets b.old at (int_bytes x) }
 {
     put_int(b, at, x as i32)
 }
@@ -54,7 +54,7 @@ fn put_coordinate(b: &mut [u8], at: usize, x: i64)
 // Twelve bytes.
 pub fn put_point(b: &mut [u8], at: usize, p: Point)
     requires { (at + 12 ≤ length b.old) × Within 2147483647 p }
-    ensures { b.new ≡ sets b.old at (pointBytes p) }
+    ensures { b.new ≡ sets b.old at (point_bytes p) }
 {
     put_coordinate(b, at, p.x);
     put_coordinate(b, at + 4, p.y);
@@ -63,7 +63,7 @@ pub fn put_point(b: &mut [u8], at: usize, p: Point)
 
 pub fn put_ints(b: &mut [u8], at: usize, row: &[i32])
     requires { at + length row.now * 4 ≤ length b.old }
-    ensures { b.new ≡ sets b.old at (intsBytes row.now) }
+    ensures { b.new ≡ sets b.old at (ints_bytes row.now) }
 {
     for i in 0..row.len() {
         put_int(b, at + i * 4, row[i]);

@@ -2,38 +2,38 @@
 -- the worked book in Octant.
 use Rattle.book.specs.Claims.{BitsAgree, GridsMatch, SetsDisjoint, CountIsZones, RefusedBook, ReaderVisits}
 use Rattle.book.specs.Claims.{ReaderStays, PartsAreSheets, SheetsMakeBook, OctantBook}
-use Rattle.book.proofs.Bits.{bits-agree, grids-match, sets-disjoint, count-is-zones}
-use Rattle.book.proofs.Visits.{reader-visits, reader-stays, parts-are-sheets}
-use Rattle.book.proofs.Refusals.{refused-book}
-use Rattle.book.proofs.Joined.{sheets-make-book}
-use Rattle.book.proofs.Octant.{octant-book}
+use Rattle.book.proofs.Bits.{bits_agree, grids_match, sets_disjoint, count_is_zones}
+use Rattle.book.proofs.Visits.{reader_visits, reader_stays, parts_are_sheets}
+use Rattle.book.proofs.Refusals.{refused_book}
+use Rattle.book.proofs.Joined.{sheets_make_book}
+use Rattle.book.proofs.Octant.{octant_book}
 
-pub bits-agree-holds : BitsAgree
-bits-agree-holds = bits-agree
+pub bits_agree_holds : BitsAgree
+bits_agree_holds = bits_agree
 
-pub grids-match-holds : GridsMatch
-grids-match-holds = grids-match
+pub grids_match_holds : GridsMatch
+grids_match_holds = grids_match
 
-pub sets-disjoint-holds : SetsDisjoint
-sets-disjoint-holds = sets-disjoint
+pub sets_disjoint_holds : SetsDisjoint
+sets_disjoint_holds = sets_disjoint
 
-pub count-is-zones-holds : CountIsZones
-count-is-zones-holds = count-is-zones
+pub count_is_zones_holds : CountIsZones
+count_is_zones_holds = count_is_zones
 
-pub refused-book-holds : RefusedBook
-refused-book-holds = refused-book
+pub refused_book_holds : RefusedBook
+refused_book_holds = refused_book
 
-pub reader-visits-holds : ReaderVisits
-reader-visits-holds = reader-visits
+pub reader_visits_holds : ReaderVisits
+reader_visits_holds = reader_visits
 
-pub reader-stays-holds : ReaderStays
-reader-stays-holds = reader-stays
+pub reader_stays_holds : ReaderStays
+reader_stays_holds = reader_stays
 
-pub parts-are-sheets-holds : PartsAreSheets
-parts-are-sheets-holds = parts-are-sheets
+pub parts_are_sheets_holds : PartsAreSheets
+parts_are_sheets_holds = parts_are_sheets
 
-pub sheets-make-book-holds : SheetsMakeBook
-sheets-make-book-holds = sheets-make-book
+pub sheets_make_book_holds : SheetsMakeBook
+sheets_make_book_holds = sheets_make_book
 
-pub octant-book-holds : OctantBook
-octant-book-holds = octant-book
+pub octant_book_holds : OctantBook
+octant_book_holds = octant_book

@@ -30,7 +30,7 @@ use denote.Triple.Statement.{Contract}
 use denote.Triple.Clauses.{ensured, lasts}
 use denote.Triple.Entry.{Vals}
 use denote.Triple.Spec.{triple_of}
-use Rattle.book.specs.Step.{stepAt}
+use Rattle.book.specs.Step.{step_at}
 use Rattle.book.specs.declared.reader.Reader.{Reader}
 use Rattle.book.specs.declared.step.Step.{Step}
 use Rattle.book.specs.contracts.reader.Reader as T
@@ -110,6 +110,6 @@ module _ {M : Type 1} {𝓤 : Ura M} (𝓛 : Logic 𝓤) (mem : Memory → SProp
   -- Of the callee's `ensured` the clause alone: it has no `&mut`, so what is said of last values is dropped.
   pub said : (r : Step) →
       ent 𝓤 (ensured 𝓛 step.ended (step.clauses 𝓛 mem run) (α.lft, tt) (h.book, (h.at, tt)) tt r)
-      (fact 𝓤 (r ≡ stepAt h.book.now h.at))
+      (fact 𝓤 (r ≡ step_at h.book.now h.at))
   said r = ex_e 𝓤 _ (λ ws. snd∗ 𝓤 (sem 𝓛 (lasts step.ended (α.lft, tt) (h.book, (h.at, tt)) ws))
-      (fact 𝓤 (r ≡ stepAt h.book.now h.at)))
+      (fact 𝓤 (r ≡ step_at h.book.now h.at)))

@@ -1,5 +1,5 @@
--- What is answered by a book of three octants. Proved, in order: octants-sound, octants-split, octants-answer,
--- octant-book.
+-- What is answered by a book of three octants. Proved, in order: octants_sound, octants_split, octants_answer,
+-- octant_book.
 use mathlib.Core.Path.{◌≡◌, refl, ◌∙◌}
 use mathlib.Core.List.{[], ◌∷◌}
 use Prim.Native.Nat.{ℕ, zero, suc, ◌<◌}
@@ -10,45 +10,45 @@ use Rattle.sphere.specs.declared.point.Point.{Point}
 use Rattle.big_endian.specs.Bytes.{short_at}
 use Rattle.answer.specs.declared.Answer.{Answer}
 use Rattle.answer.specs.declared.Check.TheVariants.{Passed}
-use Rattle.fields.specs.Fields.{isAllowed, fieldEnd, fieldCheck, gridAt, hasSecond, isCharset, charsetCheck, fiveFields}
-use Rattle.fields.specs.Fields.{secondField, sheetFields, restCheck, fieldsCheck}
-use Rattle.sheet.specs.Claims.{octantBytes, octantPairBytes}
-use Rattle.zone.proofs.Octant.{octant-answers}
-use Rattle.book.specs.Split.{Whole, splitOf}
-use Rattle.book.specs.Sets.{mask_of, setsOf, foundOf}
-use Rattle.book.specs.Which.{zoneAnswer, whichOf}
-use Rattle.book.specs.Claims.{zoneAt, flat, octantSheets, farthest, beyond, OctantBook}
-use Rattle.book.proofs.Laws.Zones.{zone-named, zone-other}
-use Rattle.book.proofs.Bits.{which-split}
-use Rattle.book.proofs.Joined.{sheets-make-book}
+use Rattle.fields.specs.Fields.{is_allowed, field_end, field_check, grid_at, has_second_point, is_charset, charset_check, five_fields}
+use Rattle.fields.specs.Fields.{second_field, sheet_fields, rest_check, fields_check}
+use Rattle.sheet.specs.Claims.{octant_bytes, octant_pair_bytes}
+use Rattle.zone.proofs.Octant.{octant_answers}
+use Rattle.book.specs.Split.{Whole, split_of}
+use Rattle.book.specs.Sets.{mask_of, sets_of, found_of}
+use Rattle.book.specs.Which.{zone_answer, which_of}
+use Rattle.book.specs.Claims.{zone_at, flat, octant_sheets, farthest, beyond, OctantBook}
+use Rattle.book.proofs.Laws.Zones.{zone_named, zone_other}
+use Rattle.book.proofs.Bits.{which_split}
+use Rattle.book.proofs.Joined.{sheets_make_book}
 
-octants-sound : (i : ℕ) → i < length octantSheets → fieldsCheck (zoneAt octantSheets i) ≡ Passed
-unfolding octantBytes octantPairBytes fieldsCheck restCheck sheetFields secondField fiveFields charsetCheck isCharset
-    hasSecond gridAt fieldCheck fieldEnd isAllowed short_at
-octants-sound zero h = refl
-octants-sound (suc zero) h = refl
-octants-sound (suc (suc zero)) h = refl
-octants-sound (suc (suc (suc i))) h = absurd (omega arith)
+octants_sound : (i : ℕ) → i < length octant_sheets → fields_check (zone_at octant_sheets i) ≡ Passed
+unfolding octant_bytes octant_pair_bytes fields_check rest_check sheet_fields second_field five_fields charset_check is_charset
+    has_second_point grid_at field_check field_end is_allowed short_at
+octants_sound zero h = refl
+octants_sound (suc zero) h = refl
+octants_sound (suc (suc zero)) h = refl
+octants_sound (suc (suc (suc i))) h = absurd (omega arith)
 
-octants-split : splitOf (flat octantSheets) ≡ Whole octantSheets
-octants-split = sheets-make-book octantSheets (omega arith) octants-sound
+octants_split : split_of (flat octant_sheets) ≡ Whole octant_sheets
+octants_split = sheets_make_book octant_sheets (omega arith) octants_sound
 
-octants-answer :
-    {a b c : Answer} (grid : ℕ) (query : Point) → zoneAnswer grid query (octantBytes 5) ≡ a →
-    zoneAnswer grid query octantPairBytes ≡ b → zoneAnswer grid query (octantBytes 7) ≡ c →
-    whichOf (flat octantSheets) grid query ≡ foundOf (setsOf (a ∷ b ∷ c ∷ []))
-octants-answer grid query e f g =
-    which-split (flat octantSheets) grid query octants-split ∙ (λ j. foundOf (setsOf (e j ∷ f j ∷ g j ∷ [])))
+octants_answer :
+    {a b c : Answer} (grid : ℕ) (query : Point) → zone_answer grid query (octant_bytes 5) ≡ a →
+    zone_answer grid query octant_pair_bytes ≡ b → zone_answer grid query (octant_bytes 7) ≡ c →
+    which_of (flat octant_sheets) grid query ≡ found_of (sets_of (a ∷ b ∷ c ∷ []))
+octants_answer grid query e f g =
+    which_split (flat octant_sheets) grid query octants_split ∙ (λ j. found_of (sets_of (e j ∷ f j ∷ g j ∷ [])))
 
-pub octant-book : OctantBook
-unfolding octantBytes octantPairBytes gridAt fieldEnd short_at mask_of ones
-octant-book = (
-  octants-answer 0 farthest (zone-named 0 farthest (octantBytes 5) refl ∙ octant-answers.0)
-      (zone-named 0 farthest octantPairBytes refl ∙ octant-answers.1)
-      (zone-other 0 farthest (octantBytes 7) (λ e. omega arith)),
-  octants-answer 1 beyond (zone-other 1 beyond (octantBytes 5) (λ e. omega arith))
-      (zone-other 1 beyond octantPairBytes (λ e. omega arith))
-      (zone-named 1 beyond (octantBytes 7) refl ∙ octant-answers.3),
-  octants-answer 2 beyond (zone-other 2 beyond (octantBytes 5) (λ e. omega arith))
-      (zone-other 2 beyond octantPairBytes (λ e. omega arith)) (zone-other 2 beyond (octantBytes 7) (λ e. omega arith)),
+pub octant_book : OctantBook
+unfolding octant_bytes octant_pair_bytes grid_at field_end short_at mask_of ones
+octant_book = (
+  octants_answer 0 farthest (zone_named 0 farthest (octant_bytes 5) refl ∙ octant_answers.0)
+      (zone_named 0 farthest octant_pair_bytes refl ∙ octant_answers.1)
+      (zone_other 0 farthest (octant_bytes 7) (λ e. omega arith)),
+  octants_answer 1 beyond (zone_other 1 beyond (octant_bytes 5) (λ e. omega arith))
+      (zone_other 1 beyond octant_pair_bytes (λ e. omega arith))
+      (zone_named 1 beyond (octant_bytes 7) refl ∙ octant_answers.3),
+  octants_answer 2 beyond (zone_other 2 beyond (octant_bytes 5) (λ e. omega arith))
+      (zone_other 2 beyond octant_pair_bytes (λ e. omega arith)) (zone_other 2 beyond (octant_bytes 7) (λ e. omega arith)),
 )

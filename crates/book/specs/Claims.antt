@@ -1,5 +1,5 @@
 -- The promised theorems of document 02's P10, as statements. Their proofs are in proofs/Claims. Defined, in order:
--- bit_of, zoneAt, howMany, flat, placeOfPart, visited; Agrees, Matches, Refusal, Visits. Stated, in order: BitsAgree (bit i of a
+-- bit_of, zone_at, how_many, flat, place_of_part, visited; Agrees, Matches, Refusal, Visits. Stated, in order: BitsAgree (bit i of a
 -- set is what the single call says of sheet i by itself, and no other bit is set), GridsMatch (what the named grid
 -- decides), SetsDisjoint (no zone is in two sets), CountIsZones (the count is the number of zones so answered),
 -- RefusedBook (20 to 23 or 36, with empty sets); ReaderVisits (a reader that starts at 0 visits exactly the sheets, and
@@ -13,34 +13,34 @@ use Rattle.sphere.specs.declared.point.Point.{Point}
 use Rattle.answer.specs.declared.Answer.{Answer}
 use Rattle.answer.specs.declared.Answer.TheVariants.{Refused}
 use Rattle.answer.specs.declared.Check.TheVariants.{Passed}
-use Rattle.fields.specs.Fields.{gridOf, fieldsCheck}
-use Rattle.sheet.specs.Claims.{octantBytes, octantPairBytes}
-use Rattle.zone.specs.Judge.{sheetAnswerOf}
+use Rattle.fields.specs.Fields.{grid_of, fields_check}
+use Rattle.sheet.specs.Claims.{octant_bytes, octant_pair_bytes}
+use Rattle.zone.specs.Judge.{sheet_answer_of}
 use Rattle.book.specs.declared.sets.Which.{Which}
 use Rattle.book.specs.declared.step.Step.TheVariants as step
-use Rattle.book.specs.Step.{stepAt, next_at}
-use Rattle.book.specs.Split.{Whole, Broken, part_of, splitOf}
-use Rattle.book.specs.Sets.{isInside, isBoundary, is_refused, digit}
-use Rattle.book.specs.Which.{zoneAnswer, whichOf}
+use Rattle.book.specs.Step.{step_at, next_at}
+use Rattle.book.specs.Split.{Whole, Broken, part_of, split_of}
+use Rattle.book.specs.Sets.{is_inside, is_boundary, is_refused, digit}
+use Rattle.book.specs.Which.{zone_answer, which_of}
 
 abbrev pub bit_of : ℕ → ℕ → ℕ
 bit_of mask i = mask / 2 ^ i % 2
 
 -- Sheet i's own bytes.
-abbrev pub zoneAt : List (List ℕ) → ℕ → List ℕ
-zoneAt parts i = get_or parts i []
+abbrev pub zone_at : List (List ℕ) → ℕ → List ℕ
+zone_at parts i = get_or parts i []
 
-unfoldable pub howMany : (Answer → Bool) → List Answer → ℕ
-howMany test [] = 0
-howMany test (answer ∷ answers) = digit (test answer) + howMany test answers
+unfoldable pub how_many : (Answer → Bool) → List Answer → ℕ
+how_many test [] = 0
+how_many test (answer ∷ answers) = digit (test answer) + how_many test answers
 
 -- The bytes of some sheets, joined end to end, and the place where sheet i starts.
 unfoldable pub flat : List (List ℕ) → List ℕ
 flat [] = []
 flat (part ∷ parts) = part ++ flat parts
 
-abbrev pub placeOfPart : List (List ℕ) → ℕ → ℕ
-placeOfPart parts i = length (flat (take i parts))
+abbrev pub place_of_part : List (List ℕ) → ℕ → ℕ
+place_of_part parts i = length (flat (take i parts))
 
 -- The reader's place after n steps from the start.
 unfoldable pub visited : List ℕ → ℕ → ℕ
@@ -51,23 +51,23 @@ visited book (suc n) = next_at book (visited book n)
 
 -- What is promised of a set whose zones pass `test`.
 pub record Agrees (test : Answer → Bool) (answer : List ℕ → Answer) (parts : List (List ℕ)) (mask : ℕ) : Type 0 where
-  pub each : (i : ℕ) → i < length parts → bit_of mask i ≡ digit (test (answer (zoneAt parts i)))
+  pub each : (i : ℕ) → i < length parts → bit_of mask i ≡ digit (test (answer (zone_at parts i)))
   pub none : (i : ℕ) → length parts ≤ i → bit_of mask i ≡ 0
 
 abbrev pub BitsAgree : Type 0
 BitsAgree =
-    (book : List ℕ) (grid : ℕ) (query : Point) (parts : List (List ℕ)) → splitOf book ≡ Whole parts →
-    let sets = (whichOf book grid query).sets in
-    Agrees isInside (zoneAnswer grid query) parts sets.inside
-    × Agrees isBoundary (zoneAnswer grid query) parts sets.boundary
-    × Agrees is_refused (zoneAnswer grid query) parts sets.refused
+    (book : List ℕ) (grid : ℕ) (query : Point) (parts : List (List ℕ)) → split_of book ≡ Whole parts →
+    let sets = (which_of book grid query).sets in
+    Agrees is_inside (zone_answer grid query) parts sets.inside
+    × Agrees is_boundary (zone_answer grid query) parts sets.boundary
+    × Agrees is_refused (zone_answer grid query) parts sets.refused
 
 -- What is promised of a zone, by its sheet's grid and the named one: on the sheet's own grid the single call decides.
 pub record Matches (grid : ℕ) (query : Point) (part : List ℕ) : Type 0 where
-  pub coarse : gridOf part ≡ Coarse → grid ≡ 0 → zoneAnswer grid query part ≡ sheetAnswerOf part query
-  pub fine : gridOf part ≡ Fine → grid ≡ 1 → zoneAnswer grid query part ≡ sheetAnswerOf part query
-  pub not-coarse : gridOf part ≡ Coarse → (grid ≡ 0 → ⊥) → zoneAnswer grid query part ≡ Refused 28 0
-  pub not-fine : gridOf part ≡ Fine → (grid ≡ 1 → ⊥) → zoneAnswer grid query part ≡ Refused 28 0
+  pub coarse : grid_of part ≡ Coarse → grid ≡ 0 → zone_answer grid query part ≡ sheet_answer_of part query
+  pub fine : grid_of part ≡ Fine → grid ≡ 1 → zone_answer grid query part ≡ sheet_answer_of part query
+  pub not_coarse : grid_of part ≡ Coarse → (grid ≡ 0 → ⊥) → zone_answer grid query part ≡ Refused 28 0
+  pub not_fine : grid_of part ≡ Fine → (grid ≡ 1 → ⊥) → zone_answer grid query part ≡ Refused 28 0
 
 abbrev pub GridsMatch : Type 0
 GridsMatch = (grid : ℕ) (query : Point) (part : List ℕ) → Matches grid query part
@@ -75,16 +75,16 @@ GridsMatch = (grid : ℕ) (query : Point) (part : List ℕ) → Matches grid que
 abbrev pub SetsDisjoint : Type 0
 SetsDisjoint =
     (book : List ℕ) (grid : ℕ) (query : Point) →
-    let sets = (whichOf book grid query).sets in
+    let sets = (which_of book grid query).sets in
     (bit_and sets.inside sets.boundary ≡ 0)
     × (bit_and sets.inside sets.refused ≡ 0)
     × (bit_and sets.boundary sets.refused ≡ 0)
 
 abbrev pub CountIsZones : Type 0
 CountIsZones =
-    (book : List ℕ) (grid : ℕ) (query : Point) (parts : List (List ℕ)) → splitOf book ≡ Whole parts →
-    (whichOf book grid query).count
-    ≡ howMany (λ answer. isInside answer || isBoundary answer) (map (zoneAnswer grid query) parts)
+    (book : List ℕ) (grid : ℕ) (query : Point) (parts : List (List ℕ)) → split_of book ≡ Whole parts →
+    (which_of book grid query).count
+    ≡ how_many (λ answer. is_inside answer || is_boundary answer) (map (zone_answer grid query) parts)
 
 -- What is promised of a book that is refused.
 pub record Refusal (book : List ℕ) (number place : ℕ) (which : Which) : Type 0 where
@@ -99,8 +99,8 @@ pub record Refusal (book : List ℕ) (number place : ℕ) (which : Which) : Type
 
 abbrev pub RefusedBook : Type 0
 RefusedBook =
-    (book : List ℕ) (grid : ℕ) (query : Point) (number place : ℕ) → splitOf book ≡ Broken number place →
-    Refusal book number place (whichOf book grid query)
+    (book : List ℕ) (grid : ℕ) (query : Point) (number place : ℕ) → split_of book ≡ Broken number place →
+    Refusal book number place (which_of book grid query)
 
 -- ---- the walk
 
@@ -108,37 +108,37 @@ RefusedBook =
 pub record Visits (book : List ℕ) (parts : List (List ℕ)) : Type 0 where
   pub few : length parts ≤ 64
   pub all : flat parts ≡ book
-  pub places : (i : ℕ) → i ≤ length parts → visited book i ≡ placeOfPart parts i
+  pub places : (i : ℕ) → i ≤ length parts → visited book i ≡ place_of_part parts i
   pub sheets : (i : ℕ) → i < length parts →
-      (stepAt book (placeOfPart parts i) ≡ step.Sheet (placeOfPart parts i) (length (zoneAt parts i)))
-      × (part_of book (placeOfPart parts i) (length (zoneAt parts i)) ≡ zoneAt parts i)
-  pub ends : stepAt book (placeOfPart parts (length parts)) ≡ step.End
+      (step_at book (place_of_part parts i) ≡ step.Sheet (place_of_part parts i) (length (zone_at parts i)))
+      × (part_of book (place_of_part parts i) (length (zone_at parts i)) ≡ zone_at parts i)
+  pub ends : step_at book (place_of_part parts (length parts)) ≡ step.End
 
 abbrev pub ReaderVisits : Type 0
-ReaderVisits = (book : List ℕ) (parts : List (List ℕ)) → splitOf book ≡ Whole parts → Visits book parts
+ReaderVisits = (book : List ℕ) (parts : List (List ℕ)) → split_of book ≡ Whole parts → Visits book parts
 
 abbrev pub ReaderStays : Type 0
 ReaderStays =
     (book : List ℕ) (at : ℕ) →
-    ((number place : ℕ) → stepAt book at ≡ step.Refused number place →
+    ((number place : ℕ) → step_at book at ≡ step.Refused number place →
     (next_at book at ≡ at) × (20 ≤ number) × (number ≤ 23))
-    × (length book ≤ at → (stepAt book at ≡ step.End) × (next_at book at ≡ at))
+    × (length book ≤ at → (step_at book at ≡ step.End) × (next_at book at ≡ at))
 
 abbrev pub PartsAreSheets : Type 0
 PartsAreSheets =
-    (book : List ℕ) (parts : List (List ℕ)) → splitOf book ≡ Whole parts → (i : ℕ) → i < length parts →
-    fieldsCheck (zoneAt parts i) ≡ Passed
+    (book : List ℕ) (parts : List (List ℕ)) → split_of book ≡ Whole parts → (i : ℕ) → i < length parts →
+    fields_check (zone_at parts i) ≡ Passed
 
 abbrev pub SheetsMakeBook : Type 0
 SheetsMakeBook =
     (parts : List (List ℕ)) → length parts ≤ 64 →
-    ((i : ℕ) → i < length parts → fieldsCheck (zoneAt parts i) ≡ Passed) → splitOf (flat parts) ≡ Whole parts
+    ((i : ℕ) → i < length parts → fields_check (zone_at parts i) ≡ Passed) → split_of (flat parts) ≡ Whole parts
 
 -- ---- a worked book
 
 -- Document 01's octant three times: on the coarse grid, with a second point, on the fine grid.
-abbrev pub octantSheets : List (List ℕ)
-octantSheets = octantBytes 5 ∷ octantPairBytes ∷ octantBytes 7 ∷ []
+abbrev pub octant_sheets : List (List ℕ)
+octant_sheets = octant_bytes 5 ∷ octant_pair_bytes ∷ octant_bytes 7 ∷ []
 
 -- K8, opposite the known point, and a point beyond the coarse grid.
 abbrev pub farthest : Point
@@ -159,6 +159,6 @@ answered count inside refused = record {
 -- fine grid only sheet 2 is asked, and a third number matches no sheet.
 abbrev pub OctantBook : Type 0
 OctantBook =
-    (whichOf (flat octantSheets) 0 farthest ≡ answered 0 0 5)
-    × (whichOf (flat octantSheets) 1 beyond ≡ answered 1 4 3)
-    × (whichOf (flat octantSheets) 2 beyond ≡ answered 0 0 7)
+    (which_of (flat octant_sheets) 0 farthest ≡ answered 0 0 5)
+    × (which_of (flat octant_sheets) 1 beyond ≡ answered 1 4 3)
+    × (which_of (flat octant_sheets) 2 beyond ≡ answered 0 0 7)

@@ -1,6 +1,6 @@
 -- Document 02, P10: sets of zones as numbers, one bit a zone, the first sheet lowest; and what a book answers. Defined,
--- in order: isInside, isBoundary, is_refused; digit, mask_of, setsOf, noZones; foundOf, brokenAt; then, of the code's
--- inner functions, Below, withBit, addedTo.
+-- in order: is_inside, is_boundary, is_refused; digit, mask_of, sets_of, no_zones; found_of, broken_at; then, of the code's
+-- inner functions, Below, with_bit, added_to.
 use Rattle.std.specs.Prelude.{Bool, true, false, cond, List, [], ◌∷◌, ℕ, ◌+◌, ◌*◌, ◌^◌, ◌<◌}
 use Rattle.std.specs.Int.Count.{ones}
 use Rattle.answer.specs.declared.Answer.{Answer}
@@ -9,19 +9,19 @@ use Rattle.book.specs.declared.sets.Sets.{Sets}
 use Rattle.book.specs.declared.sets.Which.{Which}
 
 -- The set that an answer names. Outside is in none. (No judging call answers Done.)
-abbrev pub isInside : Answer → Bool
-isInside (Done place) = false
-isInside (Inside crossed sum) = true
-isInside (Outside crossed sum) = false
-isInside (Boundary edge) = false
-isInside (Refused number place) = false
+abbrev pub is_inside : Answer → Bool
+is_inside (Done place) = false
+is_inside (Inside crossed sum) = true
+is_inside (Outside crossed sum) = false
+is_inside (Boundary edge) = false
+is_inside (Refused number place) = false
 
-abbrev pub isBoundary : Answer → Bool
-isBoundary (Done place) = false
-isBoundary (Inside crossed sum) = false
-isBoundary (Outside crossed sum) = false
-isBoundary (Boundary edge) = true
-isBoundary (Refused number place) = false
+abbrev pub is_boundary : Answer → Bool
+is_boundary (Done place) = false
+is_boundary (Inside crossed sum) = false
+is_boundary (Outside crossed sum) = false
+is_boundary (Boundary edge) = true
+is_boundary (Refused number place) = false
 
 abbrev pub is_refused : Answer → Bool
 is_refused (Done place) = false
@@ -38,23 +38,23 @@ unfoldable pub mask_of : (Answer → Bool) → List Answer → ℕ
 mask_of test [] = 0
 mask_of test (answer ∷ answers) = mask_of test answers * 2 + digit (test answer)
 
-abbrev pub setsOf : List Answer → Sets
-setsOf answers = record {
-  inside = mask_of isInside answers;
-  boundary = mask_of isBoundary answers;
+abbrev pub sets_of : List Answer → Sets
+sets_of answers = record {
+  inside = mask_of is_inside answers;
+  boundary = mask_of is_boundary answers;
   refused = mask_of is_refused answers;
 }
 
-abbrev pub noZones : Sets
-noZones = record { inside = 0; boundary = 0; refused = 0 }
+abbrev pub no_zones : Sets
+no_zones = record { inside = 0; boundary = 0; refused = 0 }
 
 -- The count is how many zones hold the query, counted from the bits of the first two sets.
-abbrev pub foundOf : Sets → Which
-foundOf sets = record { number = 0; place = 0; count = ones sets.inside + ones sets.boundary; sets = sets }
+abbrev pub found_of : Sets → Which
+found_of sets = record { number = 0; place = 0; count = ones sets.inside + ones sets.boundary; sets = sets }
 
 -- A book that is refused.
-abbrev pub brokenAt : ℕ → ℕ → Which
-brokenAt number place = record { number = number; place = place; count = 0; sets = noZones }
+abbrev pub broken_at : ℕ → ℕ → Which
+broken_at number place = record { number = number; place = place; count = 0; sets = no_zones }
 
 -- ---- of the code's inner functions: the sets zone by zone
 
@@ -65,13 +65,13 @@ pub record Below (i : ℕ) (sets : Sets) : Type 0 where
   pub refused : sets.refused < 2 ^ i
 
 -- Bit i set in a mask below it, or not.
-abbrev pub withBit : Bool → ℕ → ℕ → ℕ
-withBit true i mask = 2 ^ i + mask
-withBit false i mask = mask
+abbrev pub with_bit : Bool → ℕ → ℕ → ℕ
+with_bit true i mask = 2 ^ i + mask
+with_bit false i mask = mask
 
-abbrev pub addedTo : Sets → ℕ → Answer → Sets
-addedTo sets i answer = record {
-  inside = withBit (isInside answer) i sets.inside;
-  boundary = withBit (isBoundary answer) i sets.boundary;
-  refused = withBit (is_refused answer) i sets.refused;
+abbrev pub added_to : Sets → ℕ → Answer → Sets
+added_to sets i answer = record {
+  inside = with_bit (is_inside answer) i sets.inside;
+  boundary = with_bit (is_boundary answer) i sets.boundary;
+  refused = with_bit (is_refused answer) i sets.refused;
 }

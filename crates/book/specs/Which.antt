@@ -1,34 +1,34 @@
--- Document 02, P10: which zones of a book hold a query. Defined, in order: gridNumberOf, namedCheck (28, for one zone),
--- zoneAnswer (the single call on a sheet's own bytes, for a query on the named grid), whichAfter, whichOf.
+-- Document 02, P10: which zones of a book hold a query. Defined, in order: grid_number_of, named_check (28, for one zone),
+-- zone_answer (the single call on a sheet's own bytes, for a query on the named grid), which_after, which_of.
 use Rattle.std.specs.Prelude.{not, List, map, ℕ, eqb}
 use Rattle.sphere.specs.declared.point.Grid.{Grid}
 use Rattle.sphere.specs.declared.point.Grid.TheVariants.{Coarse, Fine}
 use Rattle.sphere.specs.declared.point.Point.{Point}
 use Rattle.answer.specs.declared.Answer.{Answer}
 use Rattle.answer.specs.declared.Check.{Check}
-use Rattle.answer.specs.Answer.{answerAfter}
-use Rattle.answer.specs.Chain.{failsIf}
-use Rattle.fields.specs.Fields.{gridOf}
-use Rattle.zone.specs.Judge.{sheetAnswerOf}
+use Rattle.answer.specs.Answer.{answer_after}
+use Rattle.answer.specs.Chain.{fails_if}
+use Rattle.fields.specs.Fields.{grid_of}
+use Rattle.zone.specs.Judge.{sheet_answer_of}
 use Rattle.book.specs.declared.sets.Which.{Which}
-use Rattle.book.specs.Split.{Split, Whole, Broken, splitOf}
-use Rattle.book.specs.Sets.{setsOf, foundOf, brokenAt}
+use Rattle.book.specs.Split.{Split, Whole, Broken, split_of}
+use Rattle.book.specs.Sets.{sets_of, found_of, broken_at}
 
 -- 0 names the grid of 2^20, 1 that of 2^26; any other number matches no sheet.
-abbrev pub gridNumberOf : Grid → ℕ
-gridNumberOf Coarse = 0
-gridNumberOf Fine = 1
+abbrev pub grid_number_of : Grid → ℕ
+grid_number_of Coarse = 0
+grid_number_of Fine = 1
 
 -- Of a sheet whose fields are sound: 28 comes before 11.
-unfoldable pub namedCheck : ℕ → List ℕ → Check
-namedCheck grid part = failsIf 28 (not (eqb grid (gridNumberOf (gridOf part))))
+unfoldable pub named_check : ℕ → List ℕ → Check
+named_check grid part = fails_if 28 (not (eqb grid (grid_number_of (grid_of part))))
 
-unfoldable pub zoneAnswer : ℕ → Point → List ℕ → Answer
-zoneAnswer grid query part = answerAfter (namedCheck grid part) (sheetAnswerOf part query)
+unfoldable pub zone_answer : ℕ → Point → List ℕ → Answer
+zone_answer grid query part = answer_after (named_check grid part) (sheet_answer_of part query)
 
-abbrev pub whichAfter : (List ℕ → Answer) → Split → Which
-whichAfter answer (Whole parts) = foundOf (setsOf (map answer parts))
-whichAfter answer (Broken number place) = brokenAt number place
+abbrev pub which_after : (List ℕ → Answer) → Split → Which
+which_after answer (Whole parts) = found_of (sets_of (map answer parts))
+which_after answer (Broken number place) = broken_at number place
 
-unfoldable pub whichOf : List ℕ → ℕ → Point → Which
-whichOf book grid query = whichAfter (zoneAnswer grid query) (splitOf book)
+unfoldable pub which_of : List ℕ → ℕ → Point → Which
+which_of book grid query = which_after (zone_answer grid query) (split_of book)

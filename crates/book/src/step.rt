@@ -1,6 +1,6 @@
 // One step of the walk over a book. Here, in order: Step, number, place, count, step_at, next_at.
 ghost use Rattle.std.specs.Prelude.{◌≡◌};
-ghost use Rattle.book.specs.Step.{stepNumberOf, stepPlaceOf, stepCountOf, stepAt, next_at};
+ghost use Rattle.book.specs.Step.{step_number_of, step_place_of, step_count_of, step_at, next_at};
 
 use answer::Check;
 use fields::{sheet_end, sheet_fields};
@@ -15,7 +15,7 @@ pub enum Step {
 }
 
 pub fn number(step: Step) -> u32
-    ensures { result ≡ stepNumberOf step }
+    ensures { result ≡ step_number_of step }
 {
     match step {
         Step::Sheet(_, _) => 0,
@@ -25,7 +25,7 @@ pub fn number(step: Step) -> u32
 }
 
 pub fn place(step: Step) -> usize
-    ensures { result ≡ stepPlaceOf step }
+    ensures { result ≡ step_place_of step }
 {
     match step {
         Step::Sheet(start, _) => start,
@@ -35,7 +35,7 @@ pub fn place(step: Step) -> usize
 }
 
 pub fn count(step: Step) -> usize
-    ensures { result ≡ stepCountOf step }
+    ensures { result ≡ step_count_of step }
 {
     match step {
         Step::Sheet(_, size) => size,
@@ -46,7 +46,7 @@ pub fn count(step: Step) -> usize
 
 // The sheet reader at a place of the book: 20 to 23, and what would be 24 starts the next sheet.
 pub fn step_at(book: &[u8], at: usize) -> Step
-    ensures { result ≡ stepAt book.now at }
+    ensures { result ≡ step_at book.now at }
 {
     if book.len() <= at {
         return Step::End;

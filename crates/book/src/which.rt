@@ -1,9 +1,9 @@
 // Which zones of a book hold a query. Here, in order: grid_number, zone_answer, zone_at, which.
 ghost use Rattle.std.specs.Prelude.{◌≡◌, ◌+◌, ◌≤◌, length};
 ghost use Rattle.answer.specs.declared.Check.TheVariants.{Passed};
-ghost use Rattle.fields.specs.Fields.{fiveFields};
+ghost use Rattle.fields.specs.Fields.{five_fields};
 ghost use Rattle.book.specs.Split.{part_of};
-ghost use Rattle.book.specs.Which.{gridNumberOf, zoneAnswer, whichOf};
+ghost use Rattle.book.specs.Which.{grid_number_of, zone_answer, which_of};
 
 use crate::sets::{Sets, Which};
 use crate::step::{Step, step_at};
@@ -14,7 +14,7 @@ use zone::judge::judge;
 
 // The number that names a grid.
 pub fn grid_number(grid: Grid) -> u32
-    ensures { result ≡ gridNumberOf grid }
+    ensures { result ≡ grid_number_of grid }
 {
     match grid {
         Grid::Coarse => 0,
@@ -24,8 +24,8 @@ pub fn grid_number(grid: Grid) -> u32
 
 // The single call on a sheet's own bytes, if the named grid is the sheet's.
 fn zone_answer(part: &[u8], grid: u32, query: Point) -> Answer
-    requires { fiveFields part.now ≡ Passed }
-    ensures { result ≡ zoneAnswer grid query part.now }
+    requires { five_fields part.now ≡ Passed }
+    ensures { result ≡ zone_answer grid query part.now }
 {
     if grid != grid_number(fields::grid(part)) {
         return Answer::Refused(28, 0);
@@ -35,8 +35,8 @@ fn zone_answer(part: &[u8], grid: u32, query: Point) -> Answer
 
 // The same, of the sheet that stands in the book at `at`.
 fn zone_at(book: &[u8], at: usize, size: usize, grid: u32, query: Point) -> Answer
-    requires { (at + size ≤ length book.now) × (fiveFields (part_of book.now at size) ≡ Passed) }
-    ensures { result ≡ zoneAnswer grid query (part_of book.now at size) }
+    requires { (at + size ≤ length book.now) × (five_fields (part_of book.now at size) ≡ Passed) }
+    ensures { result ≡ zone_answer grid query (part_of book.now at size) }
 {
     let end = at + size;
     zone_answer(&book[at..end], grid, query)
@@ -44,7 +44,7 @@ fn zone_at(book: &[u8], at: usize, size: usize, grid: u32, query: Point) -> Answ
 
 // The sets, and as count how many zones hold the query; or the book's refusal, with empty sets.
 pub fn which(book: &[u8], grid: u32, query: Point) -> Which
-    ensures { result ≡ whichOf book.now grid query }
+    ensures { result ≡ which_of book.now grid query }
 {
     let mut at = 0;
     let mut zones = Sets {

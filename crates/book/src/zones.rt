@@ -1,7 +1,7 @@
 // Sets, zone by zone, and what is made of them. Inside this crate only.
 // Here, in order: set_bit, with_zone, found, broken.
 ghost use Rattle.std.specs.Prelude.{◌≡◌, ◌+◌, ◌^◌, ◌<◌};
-ghost use Rattle.book.specs.Sets.{Below, addedTo, foundOf, brokenAt};
+ghost use Rattle.book.specs.Sets.{Below, added_to, found_of, broken_at};
 
 use crate::sets::{Sets, Which};
 use answer::Answer;
@@ -17,7 +17,7 @@ fn set_bit(mask: u64, i: u64) -> u64
 // Zone i, in the one set that its answer names, or in none.
 pub fn with_zone(sets: Sets, i: u64, answer: Answer) -> Sets
     requires { (i < 64) × Below i sets }
-    ensures { result ≡ addedTo sets i answer }
+    ensures { result ≡ added_to sets i answer }
 {
     let inside = sets.inside;
     let boundary = sets.boundary;
@@ -45,7 +45,7 @@ pub fn with_zone(sets: Sets, i: u64, answer: Answer) -> Sets
 
 // How many zones hold the query, counted from the bits.
 pub fn found(sets: Sets) -> Which
-    ensures { result ≡ foundOf sets }
+    ensures { result ≡ found_of sets }
 {
     let count = u64::count_ones(sets.inside) + u64::count_ones(sets.boundary);
     Which {
@@ -57,7 +57,7 @@ pub fn found(sets: Sets) -> Which
 }
 
 pub fn broken(number: u32, place: usize) -> Which
-    ensures { result ≡ brokenAt number place }
+    ensures { result ≡ broken_at number place }
 {
     Which {
         number,

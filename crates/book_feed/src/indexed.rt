@@ -1,15 +1,15 @@
 // An index for the queries that are near a polygon, where there are enough of them. Here, in order: add_by_index;
 // is_past, is_aside, near_one, near_at, is_worth (a guess); add_each.
 ghost use Rattle.std.specs.Prelude.{◌≡◌, ◌≤◌, ◌<◌};
-ghost use Rattle.sphere.specs.Point.{limitOf, fine, Within};
+ghost use Rattle.sphere.specs.Point.{limit_of, fine, Within};
 ghost use Rattle.answer.specs.declared.Check.TheVariants.{Passed};
-ghost use Rattle.polygon.specs.Pair.{judgeFrom, optionalCheck};
+ghost use Rattle.polygon.specs.Pair.{judge_from, optional_check};
 ghost use Rattle.polygon.specs.Verdict.{answer_of};
 ghost use Rattle.search.specs.Boxes.{Boxed};
-ghost use Rattle.feed.specs.Feed.{queryCount};
-ghost use Rattle.separation.specs.Separation.{awayOf};
+ghost use Rattle.feed.specs.Feed.{query_count};
+ghost use Rattle.separation.specs.Separation.{away_of};
 ghost use Rattle.separation.specs.Planes.{Sound};
-ghost use Rattle.book_feed.specs.Adding.{Prepared, addedAll};
+ghost use Rattle.book_feed.specs.Adding.{Prepared, added_all};
 
 use crate::judged::add_judged;
 use answer::Answer;
@@ -32,13 +32,13 @@ fn add_by_index(
     queries: &[u8],
     results: &mut [u8],
 )
-    requires second_value { (optionalCheck (limitOf grid) vertices.now known second ≡ Passed)
+    requires second_value { (optional_check (limit_of grid) vertices.now known second ≡ Passed)
         × Boxed vertices.now boxes.now }
-    requires sound { Sound vertices.now planes × (far ≡ answer_of (limitOf grid) vertices.now
-        (judgeFrom known second (awayOf vertices.now)) (awayOf vertices.now)) }
+    requires sound { Sound vertices.now planes × (far ≡ answer_of (limit_of grid) vertices.now
+        (judge_from known second (away_of vertices.now)) (away_of vertices.now)) }
     requires zone_bound { (zone < 64) × Prepared queries.now results.old zone }
-    ensures { results.new ≡ addedAll zone
-        (λ P. answer_of (limitOf grid) vertices.now (judgeFrom known second P) P) queries.now
+    ensures { results.new ≡ added_all zone
+        (λ P. answer_of (limit_of grid) vertices.now (judge_from known second P) P) queries.now
         results.old }
 {
     let mut sectors = [0u16; 8192];
@@ -98,7 +98,7 @@ fn near_one(grid: Grid, vertices: &[i32], planes: Planes, query: Point) -> usize
 }
 
 fn near_at(grid: Grid, vertices: &[i32], planes: Planes, queries: &[u8], k: usize) -> usize
-    requires { Sound vertices.now planes × (k < queryCount queries.now) }
+    requires { Sound vertices.now planes × (k < query_count queries.now) }
     ensures { result ≤ 1 }
 {
     let query = read::point_at(queries, k * 12);
@@ -139,13 +139,13 @@ pub fn add_each(
     queries: &[u8],
     results: &mut [u8],
 )
-    requires second_value { (optionalCheck (limitOf grid) vertices.now known second ≡ Passed)
+    requires second_value { (optional_check (limit_of grid) vertices.now known second ≡ Passed)
         × Boxed vertices.now boxes.now }
-    requires sound { Sound vertices.now planes × (far ≡ answer_of (limitOf grid) vertices.now
-        (judgeFrom known second (awayOf vertices.now)) (awayOf vertices.now)) }
+    requires sound { Sound vertices.now planes × (far ≡ answer_of (limit_of grid) vertices.now
+        (judge_from known second (away_of vertices.now)) (away_of vertices.now)) }
     requires zone_bound { (zone < 64) × Prepared queries.now results.old zone }
-    ensures { results.new ≡ addedAll zone
-        (λ P. answer_of (limitOf grid) vertices.now (judgeFrom known second P) P) queries.now
+    ensures { results.new ≡ added_all zone
+        (λ P. answer_of (limit_of grid) vertices.now (judge_from known second P) P) queries.now
         results.old }
 {
     if is_worth(grid, vertices, planes, queries) {

@@ -1,15 +1,15 @@
 // Every query to an accepted polygon: by its planes, and what no plane separates from it by an index or the boxes. Here,
 // in order: answer_for, add_judged. `indexed` says which of the two.
 ghost use Rattle.std.specs.Prelude.{◌≡◌, ◌<◌};
-ghost use Rattle.sphere.specs.Point.{limitOf};
+ghost use Rattle.sphere.specs.Point.{limit_of};
 ghost use Rattle.answer.specs.declared.Check.TheVariants.{Passed};
-ghost use Rattle.polygon.specs.Pair.{judgeFrom, optionalCheck};
+ghost use Rattle.polygon.specs.Pair.{judge_from, optional_check};
 ghost use Rattle.polygon.specs.Verdict.{answer_of};
 ghost use Rattle.search.specs.Boxes.{Boxed};
 ghost use Rattle.cones.specs.Table.{IndexOn};
-ghost use Rattle.separation.specs.Separation.{awayOf};
+ghost use Rattle.separation.specs.Separation.{away_of};
 ghost use Rattle.separation.specs.Planes.{Sound};
-ghost use Rattle.book_feed.specs.Adding.{Prepared, addedAll, SameSets};
+ghost use Rattle.book_feed.specs.Adding.{Prepared, added_all, SameSets};
 
 use crate::adding::add_to;
 use answer::Answer;
@@ -37,13 +37,13 @@ fn answer_for(
     second: Point,
     query: Point,
 ) -> Answer
-    requires second_value { (optionalCheck (limitOf grid) vertices.now known second ≡ Passed)
+    requires second_value { (optional_check (limit_of grid) vertices.now known second ≡ Passed)
         × Boxed vertices.now boxes.now }
     requires index_on { IndexOn vertices.now known sectors.now table.now list.now index }
-    requires sound { Sound vertices.now planes × (far ≡ answer_of (limitOf grid) vertices.now
-        (judgeFrom known second (awayOf vertices.now)) (awayOf vertices.now)) }
+    requires sound { Sound vertices.now planes × (far ≡ answer_of (limit_of grid) vertices.now
+        (judge_from known second (away_of vertices.now)) (away_of vertices.now)) }
     ensures { SameSets result
-        (answer_of (limitOf grid) vertices.now (judgeFrom known second query) query) }
+        (answer_of (limit_of grid) vertices.now (judge_from known second query) query) }
 {
     if is_separated(grid, vertices, planes, known, query) {
         return far;
@@ -74,14 +74,14 @@ pub fn add_judged(
     queries: &[u8],
     results: &mut [u8],
 )
-    requires second_value { (optionalCheck (limitOf grid) vertices.now known second ≡ Passed)
+    requires second_value { (optional_check (limit_of grid) vertices.now known second ≡ Passed)
         × Boxed vertices.now boxes.now }
     requires index_on { IndexOn vertices.now known sectors.now table.now list.now index }
-    requires sound { Sound vertices.now planes × (far ≡ answer_of (limitOf grid) vertices.now
-        (judgeFrom known second (awayOf vertices.now)) (awayOf vertices.now)) }
+    requires sound { Sound vertices.now planes × (far ≡ answer_of (limit_of grid) vertices.now
+        (judge_from known second (away_of vertices.now)) (away_of vertices.now)) }
     requires zone_bound { (zone < 64) × Prepared queries.now results.old zone }
-    ensures { results.new ≡ addedAll zone
-        (λ P. answer_of (limitOf grid) vertices.now (judgeFrom known second P) P) queries.now
+    ensures { results.new ≡ added_all zone
+        (λ P. answer_of (limit_of grid) vertices.now (judge_from known second P) P) queries.now
         results.old }
 {
     let n = queries.len() / 12;

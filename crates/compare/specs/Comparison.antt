@@ -1,17 +1,17 @@
--- Document 02, P11: what comparing two sheets returns, for any bytes. Defined, in order: refusedComparison,
--- comparedAfter, comparisonOf. Refusals: the left sheet's, else the right sheet's. Mixed grids are not refused here.
+-- Document 02, P11: what comparing two sheets returns, for any bytes. Defined, in order: refused_comparison,
+-- compared_after, comparison_of. Refusals: the left sheet's, else the right sheet's. Mixed grids are not refused here.
 use Rattle.std.specs.Prelude.{List, ℕ, length, replicate}
 use Rattle.answer.specs.declared.Check.{Check}
 use Rattle.answer.specs.declared.Check.TheVariants.{Passed, Failed}
 use Rattle.answer.specs.Chain.{◌then◌}
-use Rattle.sheet.specs.Sheet.{verticesOf, sheetCheck}
+use Rattle.sheet.specs.Sheet.{vertices_of, sheet_check}
 use Rattle.compare.specs.declared.Comparison.{Comparison}
 use Rattle.compare.specs.Ring.{placed_of, way_of, place_of}
-use Rattle.compare.specs.Differences.{differencesOf, filled}
+use Rattle.compare.specs.Differences.{differences_of, filled}
 
 -- A refusal, and zeros beside it.
-abbrev pub refusedComparison : ℕ → ℕ → Comparison
-refusedComparison number place = record {
+abbrev pub refused_comparison : ℕ → ℕ → Comparison
+refused_comparison number place = record {
   number = number;
   place = place;
   count = 0;
@@ -20,15 +20,15 @@ refusedComparison number place = record {
 }
 
 -- The place is the ring's, also where the rings do not differ; the count is the number of fields that do.
-abbrev pub comparedAfter : Check → List ℕ → List ℕ → Comparison
-comparedAfter (Failed number place) b c = refusedComparison number place
-comparedAfter Passed b c = record {
+abbrev pub compared_after : Check → List ℕ → List ℕ → Comparison
+compared_after (Failed number place) b c = refused_comparison number place
+compared_after Passed b c = record {
   number = 0;
-  place = place_of (placed_of (verticesOf b) (verticesOf c));
-  count = length (differencesOf b c);
-  way = way_of (placed_of (verticesOf b) (verticesOf c));
-  fields = filled (differencesOf b c);
+  place = place_of (placed_of (vertices_of b) (vertices_of c));
+  count = length (differences_of b c);
+  way = way_of (placed_of (vertices_of b) (vertices_of c));
+  fields = filled (differences_of b c);
 }
 
-unfoldable pub comparisonOf : List ℕ → List ℕ → Comparison
-comparisonOf b c = comparedAfter (sheetCheck b then sheetCheck c) b c
+unfoldable pub comparison_of : List ℕ → List ℕ → Comparison
+comparison_of b c = compared_after (sheet_check b then sheet_check c) b c

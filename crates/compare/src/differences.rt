@@ -3,11 +3,11 @@
 ghost use Rattle.std.specs.Prelude.{◌≡◌, [], ◌∷◌, ◌<◌};
 ghost use Rattle.sphere.specs.Point.{fine, Within};
 ghost use Rattle.answer.specs.declared.Check.TheVariants.{Passed};
-ghost use Rattle.fields.specs.Fields.{fiveFields};
-ghost use Rattle.sheet.specs.Sheet.{nameLength, name_of, vertexCountOf, verticesOf, sheetCheck, readAfter};
-ghost use Rattle.compare.specs.Ring.{ringOf, placed_of};
-ghost use Rattle.compare.specs.Differences.{zone-field, charset-field, name-field, isSameRow, isSameSecond};
-ghost use Rattle.compare.specs.Differences.{differs, differing, differencesOf, noted, pushed};
+ghost use Rattle.fields.specs.Fields.{five_fields};
+ghost use Rattle.sheet.specs.Sheet.{name_length, name_of, vertex_count_of, vertices_of, sheet_check, read_after};
+ghost use Rattle.compare.specs.Ring.{ring_of, placed_of};
+ghost use Rattle.compare.specs.Differences.{zone_field, charset_field, name_field, is_same_row, is_same_second};
+ghost use Rattle.compare.specs.Differences.{differs, differing, differences_of, noted, pushed};
 
 use crate::ring::{Placed, way};
 use fields::tag;
@@ -51,16 +51,16 @@ fn with_field(d: Differences, number: u8, other: bool) -> Differences
 
 // The vertices, as they stand in a sheet of so many and with a name of so many bytes. Neither number is read again.
 pub(crate) fn ring_in(b: &[u8], name: usize, count: usize) -> &[u8]
-    requires b_value { (fiveFields b.now ≡ Passed) × (name ≡ nameLength b.now) }
-    requires count_value { count ≡ vertexCountOf b.now }
-    ensures { ringOf result.now ≡ verticesOf b.now }
+    requires b_value { (five_fields b.now ≡ Passed) × (name ≡ name_length b.now) }
+    requires count_value { count ≡ vertex_count_of b.now }
+    ensures { ring_of result.now ≡ vertices_of b.now }
 {
     vertices_in(b, name, count)
 }
 
 // The name, which has so many bytes.
 fn name_in(b: &[u8], len: usize) -> &[u8]
-    requires { (fiveFields b.now ≡ Passed) × (len ≡ nameLength b.now) }
+    requires { (five_fields b.now ≡ Passed) × (len ≡ name_length b.now) }
     ensures { result.now ≡ name_of b.now }
 {
     let at = fields::NAME_START + 3;
@@ -68,7 +68,7 @@ fn name_in(b: &[u8], len: usize) -> &[u8]
 }
 
 fn is_same_row(l: &[u8], r: &[u8]) -> bool
-    ensures { result ≡ isSameRow l.now r.now }
+    ensures { result ≡ is_same_row l.now r.now }
 {
     if r.len() != l.len() {
         return false;
@@ -84,7 +84,7 @@ fn is_same_row(l: &[u8], r: &[u8]) -> bool
 // Two second points, each all zero where its sheet has none.
 fn is_same_second(y: Point, z: Point) -> bool
     requires { Within fine y × Within fine z }
-    ensures { result ≡ isSameSecond y z }
+    ensures { result ≡ is_same_second y z }
 {
     if is_null(y) {
         return is_null(z);
@@ -97,10 +97,10 @@ fn is_same_second(y: Point, z: Point) -> bool
 
 // Zone number, character set and name of two sheets that were read.
 fn head_differences(left: &[u8], right: &[u8], first: Sheet, second: Sheet) -> Differences
-    requires left_value { (sheetCheck left.now ≡ Passed) × (sheetCheck right.now ≡ Passed) }
-    requires first_value { (first ≡ readAfter Passed left.now) × (second ≡ readAfter Passed right.now) }
+    requires left_value { (sheet_check left.now ≡ Passed) × (sheet_check right.now ≡ Passed) }
+    requires first_value { (first ≡ read_after Passed left.now) × (second ≡ read_after Passed right.now) }
     ensures { result ≡ noted (differing (differs left.now right.now)
-        (zone-field ∷ charset-field ∷ name-field ∷ [])) }
+        (zone_field ∷ charset_field ∷ name_field ∷ [])) }
 {
     let d = with_field(none(), 1, first.zone != second.zone);
     let d = with_field(d, 2, first.charset != second.charset);
@@ -117,10 +117,10 @@ pub(crate) fn all_differences(
     second: Sheet,
     ring: Placed,
 ) -> Differences
-    requires left_value { (sheetCheck left.now ≡ Passed) × (sheetCheck right.now ≡ Passed) }
-    requires first_value { (first ≡ readAfter Passed left.now) × (second ≡ readAfter Passed right.now) }
-    requires ring_value { ring ≡ placed_of (verticesOf left.now) (verticesOf right.now) }
-    ensures { result ≡ noted (differencesOf left.now right.now) }
+    requires left_value { (sheet_check left.now ≡ Passed) × (sheet_check right.now ≡ Passed) }
+    requires first_value { (first ≡ read_after Passed left.now) × (second ≡ read_after Passed right.now) }
+    requires ring_value { ring ≡ placed_of (vertices_of left.now) (vertices_of right.now) }
+    ensures { result ≡ noted (differences_of left.now right.now) }
 {
     let d = head_differences(left, right, first, second);
     let d = with_field(d, 4, !same_direction(first.known, second.known));

@@ -3,8 +3,8 @@
 // function is proved equal to its definition in specs/.
 ghost use Rattle.std.specs.Prelude.{◌≡◌};
 ghost use Rattle.answer.specs.declared.Check.TheVariants.{Passed};
-ghost use Rattle.sheet.specs.Sheet.{sheetCheck, readAfter};
-ghost use Rattle.compare.specs.Comparison.{refusedComparison, comparedAfter, comparisonOf};
+ghost use Rattle.sheet.specs.Sheet.{sheet_check, read_after};
+ghost use Rattle.compare.specs.Comparison.{refused_comparison, compared_after, comparison_of};
 
 pub mod differences;
 pub mod ring;
@@ -26,7 +26,7 @@ pub struct Comparison {
 }
 
 fn refused(number: u32, place: usize) -> Comparison
-    ensures { result ≡ refusedComparison number place }
+    ensures { result ≡ refused_comparison number place }
 {
     Comparison {
         number: number,
@@ -39,9 +39,9 @@ fn refused(number: u32, place: usize) -> Comparison
 
 // Two sheets that were read.
 fn compare_read(left: &[u8], right: &[u8], first: Sheet, second: Sheet) -> Comparison
-    requires left_value { (sheetCheck left.now ≡ Passed) × (sheetCheck right.now ≡ Passed) }
-    requires first_value { (first ≡ readAfter Passed left.now) × (second ≡ readAfter Passed right.now) }
-    ensures { result ≡ comparedAfter Passed left.now right.now }
+    requires left_value { (sheet_check left.now ≡ Passed) × (sheet_check right.now ≡ Passed) }
+    requires first_value { (first ≡ read_after Passed left.now) × (second ≡ read_after Passed right.now) }
+    ensures { result ≡ compared_after Passed left.now right.now }
 {
     let ring = place_ring(
         ring_in(left, first.name_len, first.vertex_count),
@@ -60,7 +60,7 @@ fn compare_read(left: &[u8], right: &[u8], first: Sheet, second: Sheet) -> Compa
 
 // Any bytes. Each sheet is checked once, the left one first.
 pub fn compare(left: &[u8], right: &[u8]) -> Comparison
-    ensures { result ≡ comparisonOf left.now right.now }
+    ensures { result ≡ comparison_of left.now right.now }
 {
     let first = read(left);
     let answer = first.answer;

@@ -3,10 +3,10 @@
 // meets, first_meeting, least, first_difference, place_ring. Points of either grid are points of the fine one, and
 // their directions need no grid.
 ghost use Rattle.std.specs.Prelude.{◌≡◌, not, ◌≤◌, ◌<◌};
-ghost use Rattle.sphere.specs.Direction.{isSameDirection};
-ghost use Rattle.polygon.specs.Vertices.{vertexAt};
-ghost use Rattle.compare.specs.Ring.{way_of, place_of, ringSize, ringOf, Sound, roundOf, metAt};
-ghost use Rattle.compare.specs.Ring.{isMeeting, firstMeeting, leastOf, differenceOf, placed_of};
+ghost use Rattle.sphere.specs.Direction.{is_same_direction};
+ghost use Rattle.polygon.specs.Vertices.{vertex_at};
+ghost use Rattle.compare.specs.Ring.{way_of, place_of, ring_size, ring_of, Sound, round_of, met_at};
+ghost use Rattle.compare.specs.Ring.{is_meeting, first_meeting, least_of, difference_of, placed_of};
 
 use answer::Found;
 use big_endian::read::point_at;
@@ -43,15 +43,15 @@ pub fn place(placed: Placed) -> usize
 }
 
 fn vertex_in(ring: &[u8], i: usize) -> Point
-    requires { i < ringSize ring.now }
-    ensures { result ≡ vertexAt (ringOf ring.now) i }
+    requires { i < ring_size ring.now }
+    ensures { result ≡ vertex_at (ring_of ring.now) i }
 {
     point_at(ring, i * 12)
 }
 
 // The number j, below 2 n, of n that go round.
 fn round(n: usize, j: usize) -> usize
-    ensures { result ≡ roundOf n j }
+    ensures { result ≡ round_of n j }
 {
     if j < n {
         return j;
@@ -62,7 +62,7 @@ fn round(n: usize, j: usize) -> usize
 // The right ring's vertex that meets the left's vertex i, where its vertex k meets vertex 0.
 fn met_at(back: bool, n: usize, k: usize, i: usize) -> usize
     requires { (k < n) × (i < n) × (n ≤ 4096) }
-    ensures { result ≡ metAt back n k i }
+    ensures { result ≡ met_at back n k i }
 {
     if back {
         return round(n, k + (n - i));
@@ -73,9 +73,9 @@ fn met_at(back: bool, n: usize, k: usize, i: usize) -> usize
 // Vertex i of the left ring and vertex j of the right one differ in direction.
 fn differs(left: &[u8], right: &[u8], i: usize, j: usize) -> bool
     requires sound { Sound left.now × Sound right.now }
-    requires i_bound { (i < ringSize left.now) × (j < ringSize right.now) }
-    ensures { result ≡ not (isSameDirection (vertexAt (ringOf left.now) i)
-        (vertexAt (ringOf right.now) j)) }
+    requires i_bound { (i < ring_size left.now) × (j < ring_size right.now) }
+    ensures { result ≡ not (is_same_direction (vertex_at (ring_of left.now) i)
+        (vertex_at (ring_of right.now) j)) }
 {
     !same_direction(vertex_in(left, i), vertex_in(right, j))
 }
@@ -83,8 +83,8 @@ fn differs(left: &[u8], right: &[u8], i: usize, j: usize) -> bool
 // All vertices meet.
 fn meets(left: &[u8], right: &[u8], back: bool, k: usize) -> bool
     requires sound { Sound left.now × Sound right.now }
-    requires right_value { (ringSize right.now ≡ ringSize left.now) × (k < ringSize left.now) }
-    ensures { result ≡ isMeeting (ringOf left.now) (ringOf right.now) back k }
+    requires right_value { (ring_size right.now ≡ ring_size left.now) × (k < ring_size left.now) }
+    ensures { result ≡ is_meeting (ring_of left.now) (ring_of right.now) back k }
 {
     let n = left.len() / 12;
     for i in 0..n {
@@ -98,8 +98,8 @@ fn meets(left: &[u8], right: &[u8], back: bool, k: usize) -> bool
 // The lowest vertex of the right ring from which all meet.
 fn first_meeting(left: &[u8], right: &[u8], back: bool) -> Found
     requires sound { Sound left.now × Sound right.now }
-    requires right_value { ringSize right.now ≡ ringSize left.now }
-    ensures { result ≡ firstMeeting (ringOf left.now) (ringOf right.now) back }
+    requires right_value { ring_size right.now ≡ ring_size left.now }
+    ensures { result ≡ first_meeting (ring_of left.now) (ring_of right.now) back }
 {
     let n = left.len() / 12;
     for k in 0..n {
@@ -111,7 +111,7 @@ fn first_meeting(left: &[u8], right: &[u8], back: bool) -> Found
 }
 
 fn least(m: usize, n: usize) -> usize
-    ensures { result ≡ leastOf m n }
+    ensures { result ≡ least_of m n }
 {
     if m < n {
         return m;
@@ -122,7 +122,7 @@ fn least(m: usize, n: usize) -> usize
 // The first vertex number whose points differ, a missing one included.
 fn first_difference(left: &[u8], right: &[u8]) -> usize
     requires { Sound left.now × Sound right.now }
-    ensures { result ≡ differenceOf (ringOf left.now) (ringOf right.now) }
+    ensures { result ≡ difference_of (ring_of left.now) (ring_of right.now) }
 {
     let n = least(left.len() / 12, right.len() / 12);
     for i in 0..n {
@@ -136,7 +136,7 @@ fn first_difference(left: &[u8], right: &[u8]) -> usize
 // Where the right ring stands, and which way it runs. Backward is searched only where forward found nothing.
 pub(crate) fn place_ring(left: &[u8], right: &[u8]) -> Placed
     requires { Sound left.now × Sound right.now }
-    ensures { result ≡ placed_of (ringOf left.now) (ringOf right.now) }
+    ensures { result ≡ placed_of (ring_of left.now) (ring_of right.now) }
 {
     if right.len() / 12 != left.len() / 12 {
         return Placed::Apart(first_difference(left, right));

@@ -3,9 +3,9 @@
 use Rattle.std.specs.Prelude.{◌≡◌, true, false, List, ℕ, suc, ◌≤◌, ◌<◌, ℤ, length, get_or}
 use Rattle.sphere.specs.declared.point.Point.{Point}
 use Rattle.polygon.specs.Vertices.{start_of, end_of}
-use Rattle.polygon.specs.Border.{isCoincident, isBorder}
+use Rattle.polygon.specs.Border.{is_coincident, is_border}
 use Rattle.search.specs.declared.walk.Tally.TheVariants.{Crossed}
-use Rattle.search.specs.Walk.{tallyFrom}
+use Rattle.search.specs.Walk.{tally_from}
 use Rattle.azimuths.specs.Sectors.{Idle}
 use Rattle.cones.specs.declared.told.Told.{Told}
 
@@ -23,11 +23,11 @@ pub record Complete (I : ℕ → Type 0) (n : ℕ) (l : List ℕ) (a b : ℕ) : 
 
 -- An edge before i that is coincident with it tells that edge i is no border: a walk came past it.
 pub record EarlierTell (vs : List ℤ) (i : ℕ) : Type 0 where
-  pub tell : (j : ℕ) → j < i → isCoincident vs (start_of vs i) (end_of vs i) j ≡ true → isBorder vs i ≡ false
+  pub tell : (j : ℕ) → j < i → is_coincident vs (start_of vs i) (end_of vs i) j ≡ true → is_border vs i ≡ false
 
 -- Before entry e of a list: what all edges say that the entries before it cover, of which none is border and holds P.
 pub record Walked (vs : List ℤ) (X P : Point) (l : List ℕ) (e crossed : ℕ) (sum : ℤ) : Type 0 where
-  pub tally : (i : ℕ) → Covers (Idle vs X P) l 0 i e → tallyFrom vs X P 0 i ≡ Crossed crossed sum
+  pub tally : (i : ℕ) → Covers (Idle vs X P) l 0 i e → tally_from vs X P 0 i ≡ Crossed crossed sum
 
 -- The same as a loop over the first `to` entries has it.
 pub record Coming (vs : List ℤ) (X P : Point) (l : List ℕ) (to : ℕ) (told : Told) : Type 0 where

@@ -1,12 +1,12 @@
 -- The table of cones: for the code alone. Node k is the cone from azimuth 4k of the table to azimuth 4k + 1, with the
 -- entries of one list from number 4k + 2 of the table on before number 4k + 3. Defined, in order: RowOf, Node, Indexed
--- (the first nodes), Built, IndexOn, noIndex; Room, Roomy, Copied (one node more); ConeOn (a cone whose list is on the
+-- (the first nodes), Built, IndexOn, no_index; Room, Roomy, Copied (one node more); ConeOn (a cone whose list is on the
 -- stack), Halvable, Allows, HalfOf, LowerOf, SplitOf (a cone that is halved).
 use Rattle.std.specs.Prelude.{◌≡◌, Bool, true, false, List, ℕ, ◌+◌, ◌*◌, ◌-◌, ◌≤◌, ◌<◌, ℤ, length, get_or}
 use Prim.{Unit}
 use Rattle.sphere.specs.declared.point.Point.{Point}
 use Rattle.sphere.specs.Point.{origin}
-use Rattle.polygon.specs.Vertices.{vertexCount}
+use Rattle.polygon.specs.Vertices.{vertices_count}
 use Rattle.azimuths.specs.Azimuth.{FrameAt}
 use Rattle.azimuths.specs.Sectors.{SectorsOf, MissedIn}
 use Rattle.cones.specs.declared.build.Index.{Index}
@@ -30,8 +30,8 @@ pub record Node (n : ℕ) (sectors table list : List ℕ) (k : ℕ) : Type 0 whe
 
 -- So have those of the first nodes, which end by entry `top`.
 pub record Indexed (n : ℕ) (sectors table list : List ℕ) (nodes top : ℕ) : Type 0 where
-  pub table-room : nodes * 4 ≤ length table
-  pub list-room : top ≤ length list
+  pub table_room : nodes * 4 ≤ length table
+  pub list_room : top ≤ length list
   pub ends : (k : ℕ) → k < nodes → get_or table (k * 4 + 3) 0 ≤ top
   pub each : (k : ℕ) → k < nodes → Node n sectors table list k
 
@@ -39,20 +39,20 @@ pub record Indexed (n : ℕ) (sectors table list : List ℕ) (nodes top : ℕ) :
 pub record Built (vs : List ℤ) (X : Point) (sectors table list : List ℕ) (index : Index) : Type 0 where
   pub frame : FrameAt X index.frame
   pub sectors-of : SectorsOf vs X index.frame sectors
-  pub indexed : Indexed (vertexCount vs) sectors table list index.nodes index.top
+  pub indexed : Indexed (vertices_count vs) sectors table list index.nodes index.top
 
 -- An index without nodes says nothing.
 pub record IndexOn (vs : List ℤ) (X : Point) (sectors table list : List ℕ) (index : Index) : Type 0 where
   pub built : 0 < index.nodes → Built vs X sectors table list index
 
-abbrev pub noIndex : Index
-noIndex = record { nodes = 0; top = 0; frame = record { east = origin; north = origin } }
+abbrev pub no_index : Index
+no_index = record { nodes = 0; top = 0; frame = record { east = origin; north = origin } }
 
 -- ---- one node more
 -- Where one node more may stand, with so many entries: by the lengths of the two arrays.
 pub record Room (table list nodes top more : ℕ) : Type 0 where
-  pub table-room : nodes * 4 + 4 ≤ table
-  pub list-room : top + more ≤ list
+  pub table_room : nodes * 4 + 4 ≤ table
+  pub list_room : top + more ≤ list
   pub narrow : top + more < 65536
 
 abbrev pub Roomy : ℕ → ℕ → ℕ → ℕ → ℕ → Bool → Type 0

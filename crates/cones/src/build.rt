@@ -1,11 +1,11 @@
 // The index of a polygon, from four cones round the reference point, each a quarter turn. Here, in order: grow_root,
 // grow_roots; Index, build, no_index.
 ghost use Rattle.std.specs.Prelude.{◌≡◌, ◌*◌, ◌≤◌, ◌<◌, length};
-ghost use Rattle.sphere.specs.Point.{limitOf};
+ghost use Rattle.sphere.specs.Point.{limit_of};
 ghost use Rattle.answer.specs.declared.Check.TheVariants.{Passed};
-ghost use Rattle.polygon.specs.Checks.{acceptCheck};
-ghost use Rattle.polygon.specs.Vertices.{vertexCount};
-ghost use Rattle.cones.specs.Table.{Indexed, Built, noIndex};
+ghost use Rattle.polygon.specs.Checks.{accept_check};
+ghost use Rattle.polygon.specs.Vertices.{vertices_count};
+ghost use Rattle.cones.specs.Table.{Indexed, Built, no_index};
 
 use crate::buckets::fill;
 use crate::grow::{grow, rest};
@@ -81,9 +81,9 @@ pub fn build(
     list: &mut [u16],
     stack: &mut [u16],
 ) -> Index
-    requires known_value { (acceptCheck (limitOf grid) vertices.now known ≡ Passed)
-        × (vertexCount vertices.now * 2 ≤ length sectors.old)
-        × (vertexCount vertices.now ≤ length stack.old) }
+    requires known_value { (accept_check (limit_of grid) vertices.now known ≡ Passed)
+        × (vertices_count vertices.now * 2 ≤ length sectors.old)
+        × (vertices_count vertices.now ≤ length stack.old) }
     requires table_len_bound { (length table.old < 65536) × (1025 ≤ length buckets.old) }
     ensures { Built vertices.now known sectors.new table.new list.new
         result }
@@ -101,7 +101,7 @@ pub fn build(
 
 // An index without nodes, beside any arrays.
 pub fn no_index() -> Index
-    ensures { result ≡ noIndex }
+    ensures { result ≡ no_index }
 {
     let none = Point { x: 0, y: 0, z: 0 };
     Index {

@@ -1,6 +1,6 @@
 // Parts of a list of edges: those that span an azimuth of a cone. Here, in order: Tail, filter; Part, sift; first_list.
 ghost use Rattle.std.specs.Prelude.{◌≡◌, ◌+◌, ◌*◌, ◌-◌, ◌≤◌, ◌<◌, length};
-ghost use Rattle.azimuths.specs.Sectors.{isMissed, MissedIn};
+ghost use Rattle.azimuths.specs.Sectors.{is_missed, MissedIn};
 ghost use Rattle.cones.specs.Cones.{Complete};
 ghost use Rattle.cones.specs.Lists.{Entries, Filtered, Sifted};
 
@@ -27,7 +27,7 @@ fn filter(
 ) -> Tail
     requires n_in_bounds { (n * 2 ≤ length sectors.now) × (lo ≤ last) × (last < 65536) × (k < 65536) }
     requires from_le_to { (from ≤ to) × (to + (to - from) ≤ length list.old) × Entries n list.old from to }
-    ensures { Filtered (isMissed sectors.now lo last) list.old list.new from to
+    ensures { Filtered (is_missed sectors.now lo last) list.old list.new from to
         result.end × (result.passed ≤ to - from) }
 {
     let mut end = to;
@@ -70,7 +70,7 @@ pub fn sift(
 ) -> Part
     requires n_in_bounds { (n * 2 ≤ length sectors.now) × (lo ≤ last) × (last < 65536) × (k < 65536) }
     requires from_le_to { (from ≤ to) × (to + (to - from) ≤ length list.old) × Entries n list.old from to }
-    ensures { Sifted (isMissed sectors.now lo last) list.old list.new from to result
+    ensures { Sifted (is_missed sectors.now lo last) list.old list.new from to result
         × (result.to - result.from ≤ to - from) × (result.passed ≤ to - from) }
 {
     let tail = filter(n, sectors, lo, last, k, list, from, to);

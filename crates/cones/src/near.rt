@@ -1,7 +1,7 @@
 // The first of two loops over a node's list: the entries whose edges span the query's azimuth are gathered, without a
 // branch on it, which nobody can predict. Here: gather.
 ghost use Rattle.std.specs.Prelude.{◌≡◌, ◌*◌, ◌-◌, ◌≤◌, ◌<◌, length};
-ghost use Rattle.azimuths.specs.Sectors.{isMissedAt};
+ghost use Rattle.azimuths.specs.Sectors.{is_missed_at};
 ghost use Rattle.cones.specs.Lists.{Entries, Gathered};
 
 use azimuths::sectors::{is_missed_at, wide};
@@ -18,7 +18,7 @@ pub fn gather(
 ) -> usize
     requires n_in_bounds { (n * 2 ≤ length sectors.now) × (k < 65536) × Entries n list.now from to }
     requires from_le_to { (from ≤ to) × (to ≤ length list.now) × (to - from ≤ length near.old) }
-    ensures { Gathered (isMissedAt sectors.now k) list.now near.new from to result }
+    ensures { Gathered (is_missed_at sectors.now k) list.now near.new from to result }
 {
     let mut end = 0;
     let mut e = from;

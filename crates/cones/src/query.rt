@@ -1,11 +1,11 @@
 // A query by the index. Here, in order: least, locate, guess (a node that may be the right one); is_aside, tally_edges.
 ghost use Rattle.std.specs.Prelude.{◌≡◌, ◌*◌, ◌≤◌, ◌<◌, length};
-ghost use Rattle.sphere.specs.Point.{limitOf, Within};
+ghost use Rattle.sphere.specs.Point.{limit_of, Within};
 ghost use Rattle.answer.specs.declared.Check.TheVariants.{Passed};
-ghost use Rattle.polygon.specs.Checks.{acceptCheck};
-ghost use Rattle.polygon.specs.Vertices.{vertexCount};
+ghost use Rattle.polygon.specs.Checks.{accept_check};
+ghost use Rattle.polygon.specs.Vertices.{vertices_count};
 ghost use Rattle.search.specs.Boxes.{Boxed};
-ghost use Rattle.search.specs.Walk.{tallyFrom};
+ghost use Rattle.search.specs.Walk.{tally_from};
 ghost use Rattle.azimuths.specs.Azimuth.{AsideIf};
 ghost use Rattle.cones.specs.Table.{Built};
 
@@ -88,10 +88,10 @@ pub fn tally_edges(
     query: Point,
     mode: Mode,
 ) -> Tally
-    requires known_value { (acceptCheck (limitOf grid) vertices.now known ≡ Passed) × Within (limitOf grid) query
+    requires known_value { (accept_check (limit_of grid) vertices.now known ≡ Passed) × Within (limit_of grid) query
         × Boxed vertices.now boxes.now }
     requires built { Built vertices.now known sectors.now table.now list.now index }
-    ensures { result ≡ tallyFrom vertices.now known query 0 (vertexCount vertices.now) }
+    ensures { result ≡ tally_from vertices.now known query 0 (vertices_count vertices.now) }
 {
     let frame = index.frame;
     let u = dot(frame.east, query);

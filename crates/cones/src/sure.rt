@@ -1,6 +1,6 @@
 // On which side of a plane a point lies, where one product without a branch tells it. Here, in order: SureSide,
 // whole_side, float_side, sure_side.
-ghost use Rattle.sphere.specs.Point.{coarse, fine, limitOf, minors, Within};
+ghost use Rattle.sphere.specs.Point.{coarse, fine, limit_of, minors, Within};
 ghost use Rattle.sphere.specs.Approximate.{Exactly};
 ghost use Rattle.sphere.specs.Plane.{Sound};
 ghost use Rattle.cones.specs.Sure.{Sure};
@@ -44,7 +44,7 @@ fn float_side(normal: Point, floats: Vector, c: Point) -> SureSide
 }
 
 pub fn sure_side(plane: Plane, c: Point) -> SureSide
-    requires { Sound plane × Within (limitOf plane.grid) c }
+    requires { Sound plane × Within (limit_of plane.grid) c }
     ensures { Sure plane.normal c result }
 {
     let grid = plane.grid;

@@ -2,13 +2,13 @@
 // order: way_by, Told, tell (by sure sides); test_unsure, walk_near, tally_near (by all sides, where one is not sure).
 ghost use Rattle.std.specs.Prelude.{◌≡◌, ◌-◌, ◌≤◌, ◌<◌, length};
 ghost use Rattle.integers.specs.Sign.{unit_of};
-ghost use Rattle.sphere.specs.Point.{limitOf, Within};
+ghost use Rattle.sphere.specs.Point.{limit_of, Within};
 ghost use Rattle.answer.specs.declared.Check.TheVariants.{Passed};
-ghost use Rattle.polygon.specs.Checks.{acceptCheck};
-ghost use Rattle.polygon.specs.Vertices.{vertexCount};
-ghost use Rattle.polygon.specs.Verdict.{isOnBorder, way_of};
-ghost use Rattle.search.specs.Walk.{test_by, tallyFrom, NoneBefore};
-ghost use Rattle.azimuths.specs.Sectors.{Idle, MissedIn, wayBy, Telling};
+ghost use Rattle.polygon.specs.Checks.{accept_check};
+ghost use Rattle.polygon.specs.Vertices.{vertices_count};
+ghost use Rattle.polygon.specs.Verdict.{is_on_border, way_of};
+ghost use Rattle.search.specs.Walk.{test_by, tally_from, NoneBefore};
+ghost use Rattle.azimuths.specs.Sectors.{Idle, MissedIn, way_by, Telling};
 ghost use Rattle.cones.specs.Cones.{Complete, Coming};
 
 use crate::near::gather;
@@ -25,7 +25,7 @@ use sphere::point::{Grid, Point};
 // Which way an edge is crossed whose ends lie on both sides of the arc: by whether the reference point is on its left,
 // and whether the query is.
 fn way_by(known: bool, query: bool) -> i32
-    ensures { result ≡ unit_of (wayBy known query) }
+    ensures { result ≡ unit_of (way_by known query) }
 {
     if known == query {
         return 0;
@@ -57,9 +57,9 @@ fn tell(
     to: usize,
     told: Told,
 ) -> Told
-    requires known_value { (acceptCheck (limitOf grid) vertices.now known ≡ Passed) × Within (limitOf grid) query }
+    requires known_value { (accept_check (limit_of grid) vertices.now known ≡ Passed) × Within (limit_of grid) query }
     requires telling { Telling vertices.now known query sectors.now k × (k < 65536) }
-    requires complete { Complete (Idle vertices.now known query) (vertexCount vertices.now) list.now 0 to
+    requires complete { Complete (Idle vertices.now known query) (vertices_count vertices.now) list.now 0 to
         × Coming vertices.now known query list.now to told }
     ensures { Coming vertices.now known query list.now to result × (told.at ≤ result.at) }
 {
@@ -97,10 +97,10 @@ fn test_unsure(
     to: usize,
     i: usize,
 ) -> EdgeTest
-    requires known_value { (acceptCheck (limitOf grid) vertices.now known ≡ Passed) × Within (limitOf grid) query }
-    requires i_bound { (i < vertexCount vertices.now) × NoneBefore vertices.now query i }
-    requires complete { Complete (Idle vertices.now known query) (vertexCount vertices.now) list.now 0 to }
-    ensures { result ≡ test_by (isOnBorder vertices.now query i)
+    requires known_value { (accept_check (limit_of grid) vertices.now known ≡ Passed) × Within (limit_of grid) query }
+    requires i_bound { (i < vertices_count vertices.now) × NoneBefore vertices.now query i }
+    requires complete { Complete (Idle vertices.now known query) (vertices_count vertices.now) list.now 0 to }
+    ensures { result ≡ test_by (is_on_border vertices.now query i)
         (way_of vertices.now known query i) }
 {
     let arc = arc_between(grid, known, query, true);
@@ -118,10 +118,10 @@ fn walk_near(
     list: &[u16],
     to: usize,
 ) -> Tally
-    requires known_value { (acceptCheck (limitOf grid) vertices.now known ≡ Passed) × Within (limitOf grid) query }
+    requires known_value { (accept_check (limit_of grid) vertices.now known ≡ Passed) × Within (limit_of grid) query }
     requires telling { Telling vertices.now known query sectors.now k × (k < 65536) }
-    requires complete { Complete (Idle vertices.now known query) (vertexCount vertices.now) list.now 0 to }
-    ensures { result ≡ tallyFrom vertices.now known query 0 (vertexCount vertices.now) }
+    requires complete { Complete (Idle vertices.now known query) (vertices_count vertices.now) list.now 0 to }
+    ensures { result ≡ tally_from vertices.now known query 0 (vertices_count vertices.now) }
 {
     let mut e = 0;
     let mut crossed: u32 = 0;
@@ -165,11 +165,11 @@ pub fn tally_near(
     to: usize,
     near: &mut [u16],
 ) -> Tally
-    requires known_value { (acceptCheck (limitOf grid) vertices.now known ≡ Passed) × Within (limitOf grid) query
+    requires known_value { (accept_check (limit_of grid) vertices.now known ≡ Passed) × Within (limit_of grid) query
         × (to - from ≤ length near.old) }
     requires telling { Telling vertices.now known query sectors.now k × (k < 65536) }
-    requires complete { Complete (MissedIn sectors.now k k) (vertexCount vertices.now) list.now from to }
-    ensures { result ≡ tallyFrom vertices.now known query 0 (vertexCount vertices.now) }
+    requires complete { Complete (MissedIn sectors.now k k) (vertices_count vertices.now) list.now from to }
+    ensures { result ≡ tally_from vertices.now known query 0 (vertices_count vertices.now) }
 {
     let end = gather(vertices.len() / 3, sectors, k, list, from, to, near);
     walk_near(grid, vertices, known, query, sectors, k, near, end)

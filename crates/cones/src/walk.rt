@@ -4,11 +4,11 @@
 ghost use Rattle.std.specs.Prelude.{◌≡◌, false, ◌<◌};
 ghost use Rattle.integers.specs.Sign.{sign_of};
 ghost use Rattle.sphere.specs.Point.{fine};
-ghost use Rattle.sphere.specs.Orientation.{orientationOf};
+ghost use Rattle.sphere.specs.Orientation.{orientation_of};
 ghost use Rattle.polygon.specs.Accepted.{Listed, Gridded};
-ghost use Rattle.polygon.specs.Border.{isCoincident, isBorder};
-ghost use Rattle.polygon.specs.Vertices.{vertexCount, start_of, end_of};
-ghost use Rattle.polygon.specs.Verdict.{isOnBorder, way_of};
+ghost use Rattle.polygon.specs.Border.{is_coincident, is_border};
+ghost use Rattle.polygon.specs.Vertices.{vertices_count, start_of, end_of};
+ghost use Rattle.polygon.specs.Verdict.{is_on_border, way_of};
 ghost use Rattle.search.specs.Arc.{AcceptedArc};
 ghost use Rattle.search.specs.Walk.{test_by, NoneBefore};
 ghost use Rattle.azimuths.specs.Sectors.{Idle};
@@ -26,11 +26,11 @@ use sphere::plane::{plane_through, side_of};
 // Edge i is border, where all edges that join the same two directions are listed. Where one of them is before it, the
 // walk came past that one, so it is no border; nor is i, and nothing more is counted.
 fn is_border(vertices: &[i32], list: &[u16], to: usize, i: usize) -> bool
-    requires listed { Listed vertices.now × Gridded fine vertices.now × (i < vertexCount vertices.now)
+    requires listed { Listed vertices.now × Gridded fine vertices.now × (i < vertices_count vertices.now)
         × EarlierTell vertices.now i }
-    requires complete { Complete (λ j. isCoincident vertices.now (start_of vertices.now i) (end_of vertices.now i) j
-        ≡ false) (vertexCount vertices.now) list.now 0 to }
-    ensures { result ≡ isBorder vertices.now i }
+    requires complete { Complete (λ j. is_coincident vertices.now (start_of vertices.now i) (end_of vertices.now i) j
+        ≡ false) (vertices_count vertices.now) list.now 0 to }
+    ensures { result ≡ is_border vertices.now i }
 {
     let a = vertex_at(vertices, i);
     let b = end_of(vertices, i);
@@ -50,12 +50,12 @@ fn is_border(vertices: &[i32], list: &[u16], to: usize, i: usize) -> bool
 
 // Edge i holds the query and is border; by side, which has the sign of the orientation of its ends and the query.
 fn is_on_border(vertices: &[i32], arc: Arc, list: &[u16], to: usize, i: usize, side: i64) -> bool
-    requires accepted_arc { AcceptedArc vertices.now arc × (i < vertexCount vertices.now)
+    requires accepted_arc { AcceptedArc vertices.now arc × (i < vertices_count vertices.now)
         × NoneBefore vertices.now arc.to i }
-    requires complete { Complete (Idle vertices.now arc.from arc.to) (vertexCount vertices.now) list.now
+    requires complete { Complete (Idle vertices.now arc.from arc.to) (vertices_count vertices.now) list.now
         0 to }
-    requires side_value { sign_of side ≡ sign_of (orientationOf (start_of vertices.now i) (end_of vertices.now i) arc.to) }
-    ensures { result ≡ isOnBorder vertices.now arc.to i }
+    requires side_value { sign_of side ≡ sign_of (orientation_of (start_of vertices.now i) (end_of vertices.now i) arc.to) }
+    ensures { result ≡ is_on_border vertices.now arc.to i }
 {
     if on_edge_by(vertex_at(vertices, i), end_of(vertices, i), arc.to, side) {
         return is_border(vertices, list, to, i);
@@ -66,11 +66,11 @@ fn is_on_border(vertices: &[i32], arc: Arc, list: &[u16], to: usize, i: usize, s
 // What edge i says of the query. Its own two orientations are worked out only where its ends are not strictly on one
 // side of the arc's plane.
 pub(crate) fn test_listed(vertices: &[i32], arc: Arc, list: &[u16], to: usize, i: usize) -> EdgeTest
-    requires accepted_arc { AcceptedArc vertices.now arc × (i < vertexCount vertices.now)
+    requires accepted_arc { AcceptedArc vertices.now arc × (i < vertices_count vertices.now)
         × NoneBefore vertices.now arc.to i }
-    requires complete { Complete (Idle vertices.now arc.from arc.to) (vertexCount vertices.now) list.now
+    requires complete { Complete (Idle vertices.now arc.from arc.to) (vertices_count vertices.now) list.now
         0 to }
-    ensures { result ≡ test_by (isOnBorder vertices.now arc.to i)
+    ensures { result ≡ test_by (is_on_border vertices.now arc.to i)
         (way_of vertices.now arc.from arc.to i) }
 {
     let plane = arc.plane;

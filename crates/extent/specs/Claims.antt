@@ -6,12 +6,12 @@ use Rattle.std.specs.Prelude.{◌≡◌, List, ℕ, ◌≤◌}
 use Rattle.sphere.specs.declared.point.Point.{Point}
 use Rattle.answer.specs.declared.Check.TheVariants.{Passed}
 use Rattle.answer.specs.Answer.{number_of}
-use Rattle.separation.specs.Separation.{Separates, awayOf}
+use Rattle.separation.specs.Separation.{Separates, away_of}
 use Rattle.separation.specs.Claims.{OneSide}
-use Rattle.sheet.specs.Sheet.{verticesOf, sheetCheck}
-use Rattle.zone.specs.Judge.{sheetAnswerOf}
+use Rattle.sheet.specs.Sheet.{vertices_of, sheet_check}
+use Rattle.zone.specs.Judge.{sheet_answer_of}
 
 -- Judged: the number is at most 3 (the sheet is good, and the query gets neither 17 nor 18).
 abbrev pub FarAlike : Type 0
-FarAlike = (b : List ℕ) (N P : Point) → number_of (sheetAnswerOf b P) ≤ 3 → Separates (verticesOf b) N P →
-    OneSide (sheetAnswerOf b (awayOf (verticesOf b))) (sheetAnswerOf b P)
+FarAlike = (b : List ℕ) (N P : Point) → number_of (sheet_answer_of b P) ≤ 3 → Separates (vertices_of b) N P →
+    OneSide (sheet_answer_of b (away_of (vertices_of b))) (sheet_answer_of b P)

@@ -2,14 +2,14 @@
 // accepted polygon); measure_in, measure (a sheet by its bytes), far (the verdict on its far side). Any bytes; nothing
 // that users lend is written.
 ghost use Rattle.std.specs.Prelude.{◌≡◌, ◌≤◌, length};
-ghost use Rattle.sphere.specs.Point.{fine, limitOf};
+ghost use Rattle.sphere.specs.Point.{fine, limit_of};
 ghost use Rattle.answer.specs.declared.Check.TheVariants.{Passed, Failed};
 ghost use Rattle.polygon.specs.Accepted.{Gridded};
-ghost use Rattle.polygon.specs.Pair.{optionalCheck};
+ghost use Rattle.polygon.specs.Pair.{optional_check};
 ghost use Rattle.search.specs.Boxes.{Boxed};
-ghost use Rattle.sheet.specs.Open.{room_for, BoxesFor, decodedOf};
-ghost use Rattle.zone.specs.Judge.{boxedOf};
-ghost use Rattle.extent.specs.Extent.{isOutside, isBounded, BoxFor, Measured, Told, FarNumber};
+ghost use Rattle.sheet.specs.Open.{room_for, BoxesFor, decoded_of};
+ghost use Rattle.zone.specs.Judge.{boxed_of};
+ghost use Rattle.extent.specs.Extent.{is_outside, is_bounded, BoxFor, Measured, Told, FarNumber};
 
 use crate::sides::{Sides, is_fronted, sides_of, whole};
 use answer::{Answer, Check, number};
@@ -45,7 +45,7 @@ fn unmeasured(number: u32, place: usize) -> Extent
 }
 
 fn is_outside(answer: Answer) -> bool
-    ensures { result ≡ isOutside answer }
+    ensures { result ≡ is_outside answer }
 {
     match answer {
         Answer::Done(_) => false,
@@ -59,7 +59,7 @@ fn is_outside(answer: Answer) -> bool
 // The polygon is on one side of a coordinate plane, and the far side is outside.
 fn is_bounded(vertices: &[i32], far: Answer) -> bool
     requires { Gridded fine vertices.now }
-    ensures { result ≡ isBounded vertices.now far }
+    ensures { result ≡ is_bounded vertices.now far }
 {
     if is_fronted(vertices) {
         return is_outside(far);
@@ -85,9 +85,9 @@ fn measure_polygon(
     known: Point,
     second: Point,
 ) -> Extent
-    requires { (optionalCheck (limitOf grid) vertices.now known second ≡ Passed)
+    requires { (optional_check (limit_of grid) vertices.now known second ≡ Passed)
         × Boxed vertices.now boxes.now }
-    ensures { Measured (limitOf grid) vertices.now known second result }
+    ensures { Measured (limit_of grid) vertices.now known second result }
 {
     let planes = planes_of(vertices);
     let back = away(vertices);
@@ -108,8 +108,8 @@ fn measure_polygon(
 fn measure_in(sheet: &[u8], scratch: &mut [i32], boxes: &mut [i32]) -> Extent
     requires { (room_for sheet.now ≤ length scratch.old) × BoxesFor sheet.now boxes.old }
     ensures told { Told sheet.now result }
-    ensures scratch_after { (scratch.new ≡ decodedOf sheet.now scratch.old)
-        × (boxes.new ≡ boxedOf sheet.now boxes.old) }
+    ensures scratch_after { (scratch.new ≡ decoded_of sheet.now scratch.old)
+        × (boxes.new ≡ boxed_of sheet.now boxes.old) }
 {
     let opened = open_into(sheet, scratch, boxes);
     let check = opened.check;

@@ -5,7 +5,7 @@ ghost use Rattle.sphere.specs.Point.{fine, Within};
 ghost use Rattle.polygon.specs.Accepted.{Gridded};
 ghost use Rattle.separation.specs.Separation.{reverse};
 ghost use Rattle.separation.specs.Axes.{unit};
-ghost use Rattle.extent.specs.Sides.{wholeSides, isFronted, Bounds, Encloses};
+ghost use Rattle.extent.specs.Sides.{whole_sides, is_fronted, Bounds, Encloses};
 
 use separation::axes::{LEAST, UNIT, bound, opposite};
 use separation::planes::is_ahead;
@@ -19,7 +19,7 @@ pub struct Sides {
 }
 
 pub(crate) fn whole() -> Sides
-    ensures { result ≡ wholeSides }
+    ensures { result ≡ whole_sides }
 {
     Sides {
         low: Point {
@@ -89,7 +89,7 @@ pub(crate) fn sides_of(vertices: &[i32]) -> Sides
 // All vertices are strictly on one side of a coordinate plane.
 pub(crate) fn is_fronted(vertices: &[i32]) -> bool
     requires { Gridded fine vertices.now }
-    ensures { result ≡ isFronted vertices.now }
+    ensures { result ≡ is_fronted vertices.now }
 {
     if is_ahead(vertices, Point { x: 1, y: 0, z: 0 }) {
         return true;

@@ -11,14 +11,14 @@ use Rattle.answer.specs.declared.Answer.{Answer}
 use Rattle.answer.specs.declared.Answer.TheVariants.{Done}
 use Rattle.answer.specs.Answer.{number_of, place_of, count_of}
 use Rattle.answer.specs.Chain.{◌then◌}
-use Rattle.polygon.specs.Checks.{listCheck}
-use Rattle.polygon.specs.Grids.{isMixed, gridAnswerOf}
+use Rattle.polygon.specs.Checks.{list_check}
+use Rattle.polygon.specs.Grids.{is_mixed, grid_answer_of}
 use Rattle.polygon.specs.GridClaims.{Mixed, on}
-use Rattle.feed.specs.Feed.{queryCount, queryAt, roomNeeded, resultBytes, sizeCheck, feedOf, resultsAfter}
+use Rattle.feed.specs.Feed.{query_count, query_at, room_needed, result_bytes, size_check, feed_of, results_after}
 
 -- The twelve bytes from `at` on are the result of the answer a, and read as three words they lose nothing of it.
 pub record Encodes (b : List ℕ) (at : ℕ) (a : Answer) : Type 0 where
-  pub bytes : take 12 (drop at b) ≡ resultBytes a
+  pub bytes : take 12 (drop at b) ≡ result_bytes a
   pub number : word_at b at ≡ number_of a
   pub place : word_at b (at + 4) ≡ place_of a
   pub count : word_at b (at + 8) ≡ count_of a
@@ -26,23 +26,23 @@ pub record Encodes (b : List ℕ) (at : ℕ) (a : Answer) : Type 0 where
 -- The result buffer after a feed that succeeds: a single call's answers in order, and every other byte as it was.
 pub record HoldsResults (single : Point → Answer) (queries buffer after : List ℕ) : Type 0 where
   pub same_length : length after ≡ length buffer
-  pub each : (i : ℕ) → i < queryCount queries → Encodes after (i * 12) (single (queryAt queries i))
-  pub rest : drop (roomNeeded queries) after ≡ drop (roomNeeded queries) buffer
+  pub each : (i : ℕ) → i < query_count queries → Encodes after (i * 12) (single (query_at queries i))
+  pub rest : drop (room_needed queries) after ≡ drop (room_needed queries) buffer
 
 abbrev pub FeedEqualsSingle : Type 0
 FeedEqualsSingle =
     (g : Grid) (vs : List ℤ) (X : GridPoint) (h : Grid) (queries buffer : List ℕ) →
-    feedOf g vs X h queries (length buffer) ≡ Done 0 →
-    HoldsResults (λ P. gridAnswerOf g vs X (on h P)) queries buffer (resultsAfter g vs X h queries buffer)
+    feed_of g vs X h queries (length buffer) ≡ Done 0 →
+    HoldsResults (λ P. grid_answer_of g vs X (on h P)) queries buffer (results_after g vs X h queries buffer)
 
 abbrev pub RefusedWritesNothing : Type 0
 RefusedWritesNothing =
     (g : Grid) (vs : List ℤ) (X : GridPoint) (h : Grid) (queries buffer : List ℕ) →
-    (feedOf g vs X h queries (length buffer) ≡ Done 0 → ⊥) → resultsAfter g vs X h queries buffer ≡ buffer
+    (feed_of g vs X h queries (length buffer) ≡ Done 0 → ⊥) → results_after g vs X h queries buffer ≡ buffer
 
 -- A feed on mixed grids is refused once, and then nothing is written: 28 exactly when 26, 27 and 10 do not hold and the
 -- grids differ.
 abbrev pub FeedMixedExactly : Type 0
 FeedMixedExactly =
     (g : Grid) (vs : List ℤ) (X : GridPoint) (h : Grid) (queries : List ℕ) (room : ℕ) →
-    Mixed (feedOf g vs X h queries room) (sizeCheck queries room then listCheck vs) (isMixed g (X.grid ∷ h ∷ []))
+    Mixed (feed_of g vs X h queries room) (size_check queries room then list_check vs) (is_mixed g (X.grid ∷ h ∷ []))

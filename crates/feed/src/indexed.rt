@@ -1,9 +1,9 @@
 // One query by the feed's index. Here, in order: is_left_out, judge_indexed.
 ghost use Rattle.std.specs.Prelude.{◌≡◌, ◌||◌, eqb};
-ghost use Rattle.sphere.specs.Point.{limitOf, isOffGrid, Within};
-ghost use Rattle.sphere.specs.Direction.{isAntipodal};
+ghost use Rattle.sphere.specs.Point.{limit_of, is_off_grid, Within};
+ghost use Rattle.sphere.specs.Direction.{is_antipodal};
 ghost use Rattle.answer.specs.declared.Check.TheVariants.{Passed};
-ghost use Rattle.polygon.specs.Pair.{judgeFrom, optionalCheck};
+ghost use Rattle.polygon.specs.Pair.{judge_from, optional_check};
 ghost use Rattle.polygon.specs.Verdict.{answer_of};
 ghost use Rattle.search.specs.Boxes.{Boxed};
 ghost use Rattle.cones.specs.Table.{IndexOn};
@@ -18,8 +18,8 @@ use sphere::point::{Grid, Point, is_off_grid};
 
 // The index is of the known point, and of queries on the grid that are not antipodal to it. Without nodes it is of none.
 fn is_left_out(grid: Grid, nodes: usize, known: Point, query: Point) -> bool
-    requires { Within (limitOf grid) known }
-    ensures { result ≡ (eqb nodes 0 || (isOffGrid (limitOf grid) query || isAntipodal known query)) }
+    requires { Within (limit_of grid) known }
+    ensures { result ≡ (eqb nodes 0 || (is_off_grid (limit_of grid) query || is_antipodal known query)) }
 {
     if nodes == 0 {
         return true;
@@ -46,10 +46,10 @@ pub fn judge_indexed(
     query: Point,
     mode: Mode,
 ) -> Answer
-    requires second_value { (optionalCheck (limitOf grid) vertices.now known second ≡ Passed)
+    requires second_value { (optional_check (limit_of grid) vertices.now known second ≡ Passed)
         × Boxed vertices.now boxes.now }
     requires index_on { IndexOn vertices.now known sectors.now table.now list.now index }
-    ensures { result ≡ answer_of (limitOf grid) vertices.now (judgeFrom known second query) query }
+    ensures { result ≡ answer_of (limit_of grid) vertices.now (judge_from known second query) query }
 {
     if is_left_out(grid, index.nodes, known, query) {
         return judge_boxed(grid, vertices, boxes, known, second, query, mode).answer;

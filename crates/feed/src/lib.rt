@@ -5,16 +5,16 @@ pub mod indexed;
 
 ghost use Rattle.std.specs.Prelude.{◌≡◌, ◌+◌, ◌*◌, ◌≤◌, ◌<◌, ltb, length};
 ghost use Rattle.std.proofs.lemmas.List.Edits.{sets};
-ghost use Rattle.sphere.specs.Point.{limitOf};
+ghost use Rattle.sphere.specs.Point.{limit_of};
 ghost use Rattle.answer.specs.declared.Check.TheVariants.{Passed};
 ghost use Rattle.answer.specs.Answer.{place_of};
-ghost use Rattle.polygon.specs.Pair.{optionalCheck};
+ghost use Rattle.polygon.specs.Pair.{optional_check};
 ghost use Rattle.search.specs.Boxes.{Boxed};
-ghost use Rattle.search.specs.Walk.{asksBoxes};
+ghost use Rattle.search.specs.Walk.{asks_boxes};
 ghost use Rattle.cones.specs.Table.{IndexOn};
-ghost use Rattle.judging.specs.Accept.{BoxRoom, boxedAfter};
-ghost use Rattle.feed.specs.Feed.{queryCount, roomNeeded, resultBytes, result_of, feedBytes, sizeCheck};
-ghost use Rattle.feed.specs.Feed.{feedCheck, feedOf, resultsAfter};
+ghost use Rattle.judging.specs.Accept.{BoxRoom, boxed_after};
+ghost use Rattle.feed.specs.Feed.{query_count, room_needed, result_bytes, result_of, feed_bytes, size_check};
+ghost use Rattle.feed.specs.Feed.{feed_check, feed_of, results_after};
 
 use crate::indexed::judge_indexed;
 use answer::{Answer, Check};
@@ -27,7 +27,7 @@ use sphere::point::{Grid, GridPoint, Point};
 
 // Whole queries, and room for a result for each of them.
 pub fn size_check(queries: &[u8], room: usize) -> Check
-    ensures { result ≡ sizeCheck queries.now room }
+    ensures { result ≡ size_check queries.now room }
 {
     let needed = queries.len() / 12 * 12;
     if queries.len() % 12 != 0 {
@@ -50,8 +50,8 @@ fn feed_boxed(
     room: usize,
 ) -> Check
     requires { BoxRoom vertices.now boxes.old }
-    ensures { (result ≡ feedCheck grid vertices.now known queries_grid queries.now room)
-        × (boxes.new ≡ boxedAfter (feedCheck grid vertices.now known queries_grid
+    ensures { (result ≡ feed_check grid vertices.now known queries_grid queries.now room)
+        × (boxes.new ≡ boxed_after (feed_check grid vertices.now known queries_grid
         queries.now room) vertices.now boxes.old) }
 {
     let g = known.grid;
@@ -69,7 +69,7 @@ fn feed_boxed(
 // Twelve bytes: number, place, count.
 fn store_result(results: &mut [u8], at: usize, answer: Answer)
     requires { (at + 12 ≤ length results.old) × (place_of answer < 4294967296) }
-    ensures { results.new ≡ sets results.old at (resultBytes answer) }
+    ensures { results.new ≡ sets results.old at (result_bytes answer) }
 {
     store::put_word(results, at, answer::number(answer));
     store::put_word(results, at + 4, answer::place(answer) as u32);
@@ -78,7 +78,7 @@ fn store_result(results: &mut [u8], at: usize, answer: Answer)
 
 // By all edges up to 64 vertices, which is 192 numbers: with so few a look at the boxes costs a feed more than it saves.
 pub fn mode_for(size: usize) -> Mode
-    ensures { asksBoxes result ≡ ltb 192 size }
+    ensures { asks_boxes result ≡ ltb 192 size }
 {
     if size > 192 {
         return Mode::Boxed;
@@ -103,13 +103,13 @@ fn judge_one(
     i: usize,
     results: &mut [u8],
 )
-    requires second_value { (optionalCheck (limitOf grid) vertices.now known second ≡ Passed)
+    requires second_value { (optional_check (limit_of grid) vertices.now known second ≡ Passed)
         × Boxed vertices.now boxes.now }
     requires index_on { IndexOn vertices.now known sectors.now table.now list.now index }
-    requires i_bound { i < queryCount queries.now }
-    requires queries_in_bounds { roomNeeded queries.now ≤ length results.old }
+    requires i_bound { i < query_count queries.now }
+    requires queries_in_bounds { room_needed queries.now ≤ length results.old }
     ensures { results.new ≡ sets results.old (i * 12)
-        (result_of (limitOf grid) vertices.now known second queries.now i) }
+        (result_of (limit_of grid) vertices.now known second queries.now i) }
 {
     let at = i * 12;
     let query = read::point_at(queries, at);
@@ -137,12 +137,12 @@ fn judge_all(
     queries: &[u8],
     results: &mut [u8],
 )
-    requires second_value { (optionalCheck (limitOf grid) vertices.now known second ≡ Passed)
+    requires second_value { (optional_check (limit_of grid) vertices.now known second ≡ Passed)
         × Boxed vertices.now boxes.now }
     requires index_on { IndexOn vertices.now known sectors.now table.now list.now index }
-    requires queries_in_bounds { roomNeeded queries.now ≤ length results.old }
+    requires queries_in_bounds { room_needed queries.now ≤ length results.old }
     ensures { results.new ≡ sets results.old 0
-        (feedBytes (limitOf grid) vertices.now known second queries.now) }
+        (feed_bytes (limit_of grid) vertices.now known second queries.now) }
 {
     let n = queries.len() / 12;
     for i in 0..n {
@@ -163,11 +163,11 @@ fn judge_by_index(
     queries: &[u8],
     results: &mut [u8],
 )
-    requires second_value { (optionalCheck (limitOf grid) vertices.now known second ≡ Passed)
+    requires second_value { (optional_check (limit_of grid) vertices.now known second ≡ Passed)
         × Boxed vertices.now boxes.now }
-    requires queries_in_bounds { roomNeeded queries.now ≤ length results.old }
+    requires queries_in_bounds { room_needed queries.now ≤ length results.old }
     ensures { results.new ≡ sets results.old 0
-        (feedBytes (limitOf grid) vertices.now known second queries.now) }
+        (feed_bytes (limit_of grid) vertices.now known second queries.now) }
 {
     let mut sectors = [0u16; 8192];
     let mut table = [0u16; 2048];
@@ -202,11 +202,11 @@ pub fn judge_each(
     queries: &[u8],
     results: &mut [u8],
 )
-    requires second_value { (optionalCheck (limitOf grid) vertices.now known second ≡ Passed)
+    requires second_value { (optional_check (limit_of grid) vertices.now known second ≡ Passed)
         × Boxed vertices.now boxes.now }
-    requires queries_in_bounds { roomNeeded queries.now ≤ length results.old }
+    requires queries_in_bounds { room_needed queries.now ≤ length results.old }
     ensures { results.new ≡ sets results.old 0
-        (feedBytes (limitOf grid) vertices.now known second queries.now) }
+        (feed_bytes (limit_of grid) vertices.now known second queries.now) }
 {
     let n = queries.len() / 12;
     if n >= vertices.len() / 24 + 128 {
@@ -256,9 +256,9 @@ pub fn judge_feed(
     queries: &[u8],
     results: &mut [u8],
 ) -> Answer
-    ensures value { result ≡ feedOf grid vertices.now known queries_grid queries.now
+    ensures value { result ≡ feed_of grid vertices.now known queries_grid queries.now
         (length results.old) }
-    ensures results_after { results.new ≡ resultsAfter grid vertices.now known queries_grid
+    ensures results_after { results.new ≡ results_after grid vertices.now known queries_grid
         queries.now results.old }
 {
     let mut boxes = [0i32; 768];

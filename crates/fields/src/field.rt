@@ -1,7 +1,7 @@
 // One field: a tag, two bytes of length, the body. Here, in order: Body, field_body, field_check.
 ghost use Rattle.std.specs.Prelude.{◌≡◌, ◌+◌, ◌≤◌, ◌<◌, length};
 ghost use Rattle.big_endian.specs.Bytes.{short_at};
-ghost use Rattle.fields.specs.Fields.{isAllowed, fieldCheck};
+ghost use Rattle.fields.specs.Fields.{is_allowed, field_check};
 ghost use Rattle.fields.specs.Parts.{body_after};
 
 use crate::is_allowed;
@@ -26,7 +26,7 @@ pub(crate) fn field_body(
 ) -> Body
     requires { (at ≤ length b.now) × (0 < step) }
     ensures { result
-        ≡ body_after (fieldCheck tag (isAllowed least most step) b.now at)
+        ≡ body_after (field_check tag (is_allowed least most step) b.now at)
         (short_at b.now (at + 1)) }
 {
     if b.len() - at < 3 {
@@ -48,7 +48,7 @@ pub(crate) fn field_body(
 // The same of a field with one length.
 pub(crate) fn field_check(b: &[u8], at: usize, tag: u8, size: usize) -> Check
     requires { at ≤ length b.now }
-    ensures { result ≡ fieldCheck tag (isAllowed size size 1) b.now at }
+    ensures { result ≡ field_check tag (is_allowed size size 1) b.now at }
 {
     match field_body(b, at, tag, size, size, 1) {
         Body::Size(_) => Check::Passed,

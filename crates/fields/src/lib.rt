@@ -5,13 +5,13 @@
 // A later field is looked at only where those before it have passed. The lengths that say where the fields begin and
 // end are read once and handed on: read again they might be others, where somebody writes to the bytes meanwhile.
 ghost use Rattle.std.specs.Prelude.{◌≡◌, ◌+◌, ◌≤◌, ◌<◌, eqb, length};
-ghost use Rattle.big_endian.specs.Bytes.{byteAt, short_at};
+ghost use Rattle.big_endian.specs.Bytes.{byte_at, short_at};
 ghost use Rattle.answer.specs.declared.Check.TheVariants.{Passed};
 ghost use Rattle.answer.specs.Chain.{◌then◌};
-ghost use Rattle.fields.specs.Fields.{isAllowed, knownStart, gridAt, gridOf, tag_of, isCharset};
-ghost use Rattle.fields.specs.Fields.{charsetCheck, nameCheck, knownCheck, verticesCheck, fiveFields};
-ghost use Rattle.fields.specs.Fields.{secondField, sheetFields, fieldsCheck};
-ghost use Rattle.fields.specs.Parts.{refusedParts, partsAfter, secondOfParts, endOfParts};
+ghost use Rattle.fields.specs.Fields.{is_allowed, known_start, grid_at, grid_of, tag_of, is_charset};
+ghost use Rattle.fields.specs.Fields.{charset_check, name_check, known_check, vertices_check, five_fields};
+ghost use Rattle.fields.specs.Fields.{second_field, sheet_fields, fields_check};
+ghost use Rattle.fields.specs.Parts.{refused_parts, parts_after, second_of_parts, end_of_parts};
 
 mod field;
 
@@ -39,7 +39,7 @@ pub const NAME_START: usize = 11;
 // A length from `least` to `most`, in whole steps.
 pub fn is_allowed(n: usize, least: usize, most: usize, step: usize) -> bool
     requires { 0 < step }
-    ensures { result ≡ isAllowed least most step n }
+    ensures { result ≡ is_allowed least most step n }
 {
     if n < least {
         return false;
@@ -52,7 +52,7 @@ pub fn is_allowed(n: usize, least: usize, most: usize, step: usize) -> bool
 
 // Document 01: 1 UTF-8, 2 ISO 8859-7, 3 windows-1253.
 pub fn is_charset(n: u32) -> bool
-    ensures { result ≡ isCharset n }
+    ensures { result ≡ is_charset n }
 {
     if n < 1 {
         return false;
@@ -63,7 +63,7 @@ pub fn is_charset(n: u32) -> bool
 // The one field whose body is looked at here.
 fn charset_check(b: &[u8]) -> Check
     requires { 7 ≤ length b.now }
-    ensures { result ≡ charsetCheck b.now }
+    ensures { result ≡ charset_check b.now }
 {
     if let Check::Failed(number, place) = field_check(b, CHARSET_START, 2, 1) {
         return Check::Failed(number, place);
@@ -76,7 +76,7 @@ fn charset_check(b: &[u8]) -> Check
 
 // Document 02, P8: 7 in place of 5 says that the sheet is on the fine grid.
 fn grid_at(b: &[u8], at: usize) -> Grid
-    ensures { result ≡ gridAt b.now at }
+    ensures { result ≡ grid_at b.now at }
 {
     if at < b.len() {
         if b[at] == 7 {
@@ -98,7 +98,7 @@ pub fn tag(grid: Grid) -> u8
 
 // A byte 6 after the vertices starts the second point's field.
 fn starts_second(b: &[u8], at: usize) -> bool
-    ensures { result ≡ eqb (byteAt b.now at) 6 }
+    ensures { result ≡ eqb (byte_at b.now at) 6 }
 {
     if at < b.len() {
         return b[at] == 6;
@@ -107,7 +107,7 @@ fn starts_second(b: &[u8], at: usize) -> bool
 }
 
 fn refused(number: u32, place: usize) -> Parts
-    ensures { result ≡ refusedParts number place }
+    ensures { result ≡ refused_parts number place }
 {
     Parts {
         check: Check::Failed(number, place),
@@ -120,9 +120,9 @@ fn refused(number: u32, place: usize) -> Parts
 
 // The known point's field and the vertices', after a name of so many bytes.
 fn from_known(b: &[u8], name: usize) -> Parts
-    requires { (nameCheck b.now ≡ Passed) × (name ≡ short_at b.now 12) }
+    requires { (name_check b.now ≡ Passed) × (name ≡ short_at b.now 12) }
     ensures { result
-        ≡ partsAfter (knownCheck b.now then verticesCheck b.now) b.now }
+        ≡ parts_after (known_check b.now then vertices_check b.now) b.now }
 {
     let known = NAME_START + 3 + name;
     if let Check::Failed(number, place) = field_check(b, known, 4, 12) {
@@ -144,7 +144,7 @@ fn from_known(b: &[u8], name: usize) -> Parts
 
 // The five fields that every sheet has, in order. Bytes may follow.
 fn five_fields(b: &[u8]) -> Parts
-    ensures { result ≡ partsAfter (fiveFields b.now) b.now }
+    ensures { result ≡ parts_after (five_fields b.now) b.now }
 {
     if let Check::Failed(number, place) = field_check(b, 0, 1, 4) {
         return refused(number, place);
@@ -161,15 +161,15 @@ fn five_fields(b: &[u8]) -> Parts
 // Where the known point's field begins.
 fn known_start(b: &[u8]) -> usize
     requires { 14 ≤ length b.now }
-    ensures { result ≡ knownStart b.now }
+    ensures { result ≡ known_start b.now }
 {
     NAME_START + 3 + read::short_at(b, NAME_START + 1) as usize
 }
 
 // The grid of the sheet's points.
 pub fn grid(b: &[u8]) -> Grid
-    requires { fiveFields b.now ≡ Passed }
-    ensures { result ≡ gridOf b.now }
+    requires { five_fields b.now ≡ Passed }
+    ensures { result ≡ grid_of b.now }
 {
     grid_at(b, known_start(b) + 15)
 }
@@ -177,15 +177,15 @@ pub fn grid(b: &[u8]) -> Grid
 // Where the vertices end. The second point's field begins there, if there is one.
 pub fn second_start(parts: Parts) -> usize
     requires { (parts.name ≤ 120) × (parts.row ≤ 49152) }
-    ensures { result ≡ secondOfParts parts }
+    ensures { result ≡ second_of_parts parts }
 {
     parts.name + 32 + parts.row
 }
 
 // The second point's field, if there is one.
 fn second_field(b: &[u8], parts: Parts) -> Check
-    requires { (fiveFields b.now ≡ Passed) × (parts ≡ partsAfter Passed b.now) }
-    ensures { result ≡ secondField b.now }
+    requires { (five_fields b.now ≡ Passed) × (parts ≡ parts_after Passed b.now) }
+    ensures { result ≡ second_field b.now }
 {
     if parts.has_second {
         return field_check(b, second_start(parts), 6, 12);
@@ -195,7 +195,7 @@ fn second_field(b: &[u8], parts: Parts) -> Check
 
 // All fields. Bytes may follow.
 pub fn sheet_fields(b: &[u8]) -> Parts
-    ensures { result ≡ partsAfter (sheetFields b.now) b.now }
+    ensures { result ≡ parts_after (sheet_fields b.now) b.now }
 {
     let parts = five_fields(b);
     let check = parts.check;
@@ -212,7 +212,7 @@ pub fn sheet_fields(b: &[u8]) -> Parts
 // Where a sheet ends whose fields are sound.
 pub fn sheet_end(parts: Parts) -> usize
     requires { (parts.name ≤ 120) × (parts.row ≤ 49152) }
-    ensures { result ≡ endOfParts parts }
+    ensures { result ≡ end_of_parts parts }
 {
     let at = second_start(parts);
     if parts.has_second {
@@ -223,7 +223,7 @@ pub fn sheet_end(parts: Parts) -> usize
 
 // All fields, and nothing after them.
 pub fn fields_check(b: &[u8]) -> Parts
-    ensures { result ≡ partsAfter (fieldsCheck b.now) b.now }
+    ensures { result ≡ parts_after (fields_check b.now) b.now }
 {
     let parts = sheet_fields(b);
     let check = parts.check;

@@ -1,5 +1,5 @@
 -- A list of over 4,096 vertices is refused by 10, however long it is: the writer's answer for the first 4,097 of them
--- is its answer for all. Proved, in order: write-long, cut-answer, cut-buffer.
+-- is its answer for all. Proved, in order: write_long, cut_answer, cut_buffer.
 use mathlib.Core.Path.{◌≡◌, refl, sym, ap, ◌∙◌}
 use mathlib.Core.Bool.{Bool, true, false, not, ◌&&◌}
 use mathlib.Core.List.{List}
@@ -14,24 +14,24 @@ use Rattle.sphere.specs.declared.point.Point.{Point}
 use Rattle.sphere.specs.declared.point.Grid.{Grid}
 use Rattle.answer.specs.declared.Check.{Check}
 use Rattle.answer.specs.declared.Check.TheVariants.{Passed, Failed}
-use Rattle.answer.specs.Chain.{◌then◌, failsIf, failsHere}
-use Rattle.polygon.specs.Checks.{listCheck, polygonCheck, acceptCheck}
-use Rattle.polygon.specs.Grids.{gridCheck}
-use Rattle.polygon.specs.Pair.{noSecond}
+use Rattle.answer.specs.Chain.{◌then◌, fails_if, fails_here}
+use Rattle.polygon.specs.Checks.{list_check, polygon_check, accept_check}
+use Rattle.polygon.specs.Grids.{grid_check}
+use Rattle.polygon.specs.Pair.{no_second}
 use Rattle.polygon.specs.GridClaims.{on}
-use Rattle.fields.specs.Fields.{isCharset, isNameLength}
-use Rattle.geojson.specs.Import.{plainWriteOf, plainWrittenTo}
-use Rattle.sheet.specs.Write.{bytesNeeded, inputCheck, writeCheck, writeOf, writtenTo}
+use Rattle.fields.specs.Fields.{is_charset, is_name_length}
+use Rattle.geojson.specs.Import.{plain_write_of, plain_written_to}
+use Rattle.sheet.specs.Write.{bytes_needed, input_check, write_check, write_of, written_to}
 
 -- What the writer says of a list that is too long.
-abbrev tooLong : ℕ → List ℕ → Check
-tooLong charset name =
-    failsIf 23 (not (isCharset charset)) then failsIf 22 (not (isNameLength (length name))) then Failed 10 0
+abbrev too_long : ℕ → List ℕ → Check
+too_long charset name =
+    fails_if 23 (not (is_charset charset)) then fails_if 22 (not (is_name_length (length name))) then Failed 10 0
 
-last-false : (a b c : Bool) → c ≡ false → (a && (b && c)) ≡ false
-last-false true true c e = e
-last-false true false c e = refl
-last-false false b c e = refl
+last_false : (a b c : Bool) → c ≡ false → (a && (b && c)) ≡ false
+last_false true true c e = e
+last_false true false c e = refl
+last_false false b c e = refl
 
 stays : (a b rest : Check) → ((a then b then Failed 10 0) then rest) ≡ (a then b then Failed 10 0)
 stays Passed Passed rest = refl
@@ -49,39 +49,39 @@ refusal Passed (Failed n p) = record { number = n; place = p; is = refl }
 refusal (Failed n p) b = record { number = n; place = p; is = refl }
 
 module _ (g : Grid) (charset : ℕ) (name : List ℕ) (known : Point) where
-  input-long : (vs : List ℤ) → 4096 < length vs / 3 → inputCheck charset name (on g known) g vs
-      (on g noSecond) ≡ tooLong charset name
-  unfolding inputCheck gridCheck listCheck
-  input-long vs h =
-      rw (last-false (eqb (length vs % 3) 0) (leb 3 (length vs / 3)) (leb (length vs / 3) 4096) (lt-leb _ _ h))
+  input_long : (vs : List ℤ) → 4096 < length vs / 3 → input_check charset name (on g known) g vs
+      (on g no_second) ≡ too_long charset name
+  unfolding input_check grid_check list_check
+  input_long vs h =
+      rw (last_false (eqb (length vs % 3) 0) (leb 3 (length vs / 3)) (leb (length vs / 3) 4096) (lt-leb _ _ h))
 
-  pub write-long : (vs : List ℤ) (room : ℕ) → 4096 < length vs / 3 →
-      writeCheck charset name (on g known) g vs (on g noSecond) room ≡ tooLong charset name
-  unfolding writeCheck
-  write-long vs room h =
-      rw (input-long vs h)
-      (stays (failsIf 23 (not (isCharset charset))) (failsIf 22 (not (isNameLength (length name))))
-      (failsHere 25 (bytesNeeded name vs noSecond) (ltb room (bytesNeeded name vs noSecond))))
+  pub write_long : (vs : List ℤ) (room : ℕ) → 4096 < length vs / 3 →
+      write_check charset name (on g known) g vs (on g no_second) room ≡ too_long charset name
+  unfolding write_check
+  write_long vs room h =
+      rw (input_long vs h)
+      (stays (fails_if 23 (not (is_charset charset))) (fails_if 22 (not (is_name_length (length name))))
+      (fails_here 25 (bytes_needed name vs no_second) (ltb room (bytes_needed name vs no_second))))
 
-  refused : Refusal (tooLong charset name)
-  refused = refusal (failsIf 23 (not (isCharset charset))) (failsIf 22 (not (isNameLength (length name))))
+  refused : Refusal (too_long charset name)
+  refused = refusal (fails_if 23 (not (is_charset charset))) (fails_if 22 (not (is_name_length (length name))))
 
   failed : (vs : List ℤ) (room : ℕ) → 4096 < length vs / 3 →
-      writeCheck charset name (on g known) g vs (on g noSecond) room ≡ Failed refused.number
+      write_check charset name (on g known) g vs (on g no_second) room ≡ Failed refused.number
       refused.place
-  failed vs room h = write-long vs room h ∙ refused.is
+  failed vs room h = write_long vs room h ∙ refused.is
 
   same_answer : (vs ws : List ℤ) (room : ℕ) → 4096 < length vs / 3 → 4096 < length ws / 3 →
-      plainWriteOf g charset name known vs room
-      ≡ plainWriteOf g charset name known ws room
-  unfolding writeOf
+      plain_write_of g charset name known vs room
+      ≡ plain_write_of g charset name known ws room
+  unfolding write_of
   same_answer vs ws room g h = rw (failed vs room g, failed ws room h)
 
-  same-buffer : (zone : ℕ) (vs ws : List ℤ) (buffer : List ℕ) → 4096 < length vs / 3 → 4096 < length ws / 3 →
-      plainWrittenTo g zone charset name known vs buffer
-      ≡ plainWrittenTo g zone charset name known ws buffer
-  unfolding writtenTo
-  same-buffer zone vs ws buffer g h = rw (failed vs (length buffer) g, failed ws (length buffer) h)
+  same_buffer : (zone : ℕ) (vs ws : List ℤ) (buffer : List ℕ) → 4096 < length vs / 3 → 4096 < length ws / 3 →
+      plain_written_to g zone charset name known vs buffer
+      ≡ plain_written_to g zone charset name known ws buffer
+  unfolding written_to
+  same_buffer zone vs ws buffer g h = rw (failed vs (length buffer) g, failed ws (length buffer) h)
 
   module _ (n : ℕ) (vs : List ℤ) (is : length vs ≡ n * 3) where
     whole : n ≤ 4097 → take (min n 4097 * 3) vs ≡ vs
@@ -90,28 +90,28 @@ module _ (g : Grid) (charset : ℕ) (name : List ℕ) (known : Point) where
     long : 4097 < n → 4096 < length (take (min n 4097 * 3) vs) / 3
     long h = let l = length-take-le (min n 4097 * 3) vs (omega arith) in omega arith
 
-    pub cut-answer : (room : ℕ) →
-        plainWriteOf g charset name known (take (min n 4097 * 3) vs) room
-        ≡ plainWriteOf g charset name known vs room
-    cut-answer room = go (leb n 4097) refl
+    pub cut_answer : (room : ℕ) →
+        plain_write_of g charset name known (take (min n 4097 * 3) vs) room
+        ≡ plain_write_of g charset name known vs room
+    cut_answer room = go (leb n 4097) refl
       where
         go : (t : Bool) → leb n 4097 ≡ t →
-            plainWriteOf g charset name known (take (min n 4097 * 3) vs) room
-            ≡ plainWriteOf g charset name known vs room
+            plain_write_of g charset name known (take (min n 4097 * 3) vs) room
+            ≡ plain_write_of g charset name known vs room
         go true e = rw (whole (leb-true n 4097 e))
         go false e =
             let h = leb-false n 4097 e in
             same_answer (take (min n 4097 * 3) vs) vs room (long h) (omega arith)
 
-    pub cut-buffer : (zone : ℕ) (buffer : List ℕ) →
-        plainWrittenTo g zone charset name known (take (min n 4097 * 3) vs) buffer
-        ≡ plainWrittenTo g zone charset name known vs buffer
-    cut-buffer zone buffer = go (leb n 4097) refl
+    pub cut_buffer : (zone : ℕ) (buffer : List ℕ) →
+        plain_written_to g zone charset name known (take (min n 4097 * 3) vs) buffer
+        ≡ plain_written_to g zone charset name known vs buffer
+    cut_buffer zone buffer = go (leb n 4097) refl
       where
         go : (t : Bool) → leb n 4097 ≡ t →
-            plainWrittenTo g zone charset name known (take (min n 4097 * 3) vs) buffer
-            ≡ plainWrittenTo g zone charset name known vs buffer
+            plain_written_to g zone charset name known (take (min n 4097 * 3) vs) buffer
+            ≡ plain_written_to g zone charset name known vs buffer
         go true e = rw (whole (leb-true n 4097 e))
         go false e =
             let h = leb-false n 4097 e in
-            same-buffer zone (take (min n 4097 * 3) vs) vs buffer (long h) (omega arith)
+            same_buffer zone (take (min n 4097 * 3) vs) vs buffer (long h) (omega arith)

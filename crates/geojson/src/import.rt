@@ -2,7 +2,7 @@
 // Here, in order: list_size, on_grid, answer_plain, write_plain; import_answer (nothing is written), import.
 ghost use Rattle.std.specs.Prelude.{◌≡◌, ◌*◌, ◌≤◌, min, length};
 ghost use Rattle.polygon.specs.GridClaims.{on};
-ghost use Rattle.geojson.specs.Import.{plainWriteOf, plainWrittenTo, importOn, importedOn};
+ghost use Rattle.geojson.specs.Import.{plain_write_of, plain_written_to, import_on, imported_on};
 
 use crate::scan::{Scanned, scan};
 use answer::Answer;
@@ -33,7 +33,7 @@ fn answer_plain(
     vertices: &[i32],
     room: usize,
 ) -> Answer
-    ensures { result ≡ plainWriteOf grid charset name.now known vertices.now room }
+    ensures { result ≡ plain_write_of grid charset name.now known vertices.now room }
 {
     let known = on_grid(grid, known);
     let second = on_grid(grid, Point { x: 0, y: 0, z: 0 });
@@ -50,9 +50,9 @@ fn write_plain(
     buffer: &mut [u8],
 ) -> Answer
     ensures value { result
-        ≡ plainWriteOf grid charset name.now known vertices.now (length buffer.old) }
+        ≡ plain_write_of grid charset name.now known vertices.now (length buffer.old) }
     ensures buffer_after { buffer.new
-        ≡ plainWrittenTo grid zone charset name.now known vertices.now buffer.old }
+        ≡ plain_written_to grid zone charset name.now known vertices.now buffer.old }
 {
     let known = on_grid(grid, known);
     let second = on_grid(grid, Point { x: 0, y: 0, z: 0 });
@@ -68,7 +68,7 @@ pub fn import_answer(
     known: Point,
     room: usize,
 ) -> Answer
-    ensures { result ≡ importOn grid text.now charset name.now known room }
+    ensures { result ≡ import_on grid text.now charset name.now known room }
 {
     let mut list = [0i32; 12291];
     match scan(grid, text, &mut list) {
@@ -90,9 +90,9 @@ pub fn import(
     known: Point,
     buffer: &mut [u8],
 ) -> Answer
-    ensures value { result ≡ importOn grid text.now charset name.now known (length buffer.old) }
+    ensures value { result ≡ import_on grid text.now charset name.now known (length buffer.old) }
     ensures buffer_after { buffer.new
-        ≡ importedOn grid zone text.now charset name.now known buffer.old }
+        ≡ imported_on grid zone text.now charset name.now known buffer.old }
 {
     let mut list = [0i32; 12291];
     match scan(grid, text, &mut list) {

@@ -2,8 +2,8 @@
 // Here, in order: Reader, Scanned, put, start, step, finish, resumed, scan_with, scan.
 ghost use Rattle.std.specs.Prelude.{◌≡◌, ◌+◌, ◌<◌, ◌≤◌, length};
 ghost use Rattle.positions.specs.Number.{Small};
-ghost use Rattle.positions.specs.Text.{classTable, rows};
-ghost use Rattle.geojson.specs.Scan.{put_of, start_of, step_of, out_of, finishOf, scannedOf, Listed};
+ghost use Rattle.positions.specs.Text.{class_table, rows};
+ghost use Rattle.geojson.specs.Scan.{put_of, start_of, step_of, out_of, finish_of, scanned_of, Listed};
 
 use crate::ahead::{Reached, ahead};
 use angles::point::{GridNumbers, Position, numbers_on};
@@ -97,7 +97,7 @@ fn step(grid: Grid, r: Reader, b: u8, out: &mut [i32]) -> Reader
 }
 
 fn finish(r: Reader) -> Scanned
-    ensures { result ≡ finishOf r }
+    ensures { result ≡ finish_of r }
 {
     let ring = r.ring;
     match ring::ring_check(ring) {
@@ -125,8 +125,8 @@ fn scan_with(
     text: &[u8],
     out: &mut [i32],
 ) -> Scanned
-    requires { (length out.old ≡ 12291) × (classes.now ≡ classTable) × (table.now ≡ rows) }
-    ensures value { result ≡ scannedOf text.now }
+    requires { (length out.old ≡ 12291) × (classes.now ≡ class_table) × (table.now ≡ rows) }
+    ensures value { result ≡ scanned_of text.now }
     ensures listed { Listed grid result text.now out.new }
 {
     let mut s = State { at: 0, ring: 0 };
@@ -158,7 +158,7 @@ fn scan_with(
 // The tables are laid out once.
 pub fn scan(grid: Grid, text: &[u8], out: &mut [i32]) -> Scanned
     requires { length out.old ≡ 12291 }
-    ensures value { result ≡ scannedOf text.now }
+    ensures value { result ≡ scanned_of text.now }
     ensures listed { Listed grid result text.now out.new }
 {
     let classes = grammar::class_table();

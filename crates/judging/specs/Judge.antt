@@ -1,44 +1,44 @@
 -- Judging a query: the verdict by a tally, and document 02's number of edges looked at (P2). Defined, in order:
--- verdictOn; lookedAfter, lookedOf; gridLookedOf, gridLookedPairOf (the calls' numbers for any records).
+-- verdict_on; looked_after, looked_of; grid_looked_of, grid_looked_pair_of (the calls' numbers for any records).
 use Rattle.std.specs.Prelude.{List, [], ◌∷◌, ℕ, ℤ}
 use Rattle.sphere.specs.declared.point.Point.{Point}
 use Rattle.sphere.specs.declared.point.Grid.{Grid}
 use Rattle.sphere.specs.declared.point.GridPoint.{GridPoint}
-use Rattle.sphere.specs.Point.{limitOf}
+use Rattle.sphere.specs.Point.{limit_of}
 use Rattle.answer.specs.declared.Found.TheVariants.{Nothing}
 use Rattle.answer.specs.declared.Check.{Check}
 use Rattle.answer.specs.declared.Check.TheVariants.{Passed, Failed}
 use Rattle.answer.specs.declared.Answer.{Answer}
 use Rattle.answer.specs.declared.Answer.TheVariants.{Boundary}
-use Rattle.polygon.specs.Vertices.{vertexCount}
-use Rattle.polygon.specs.Checks.{judgeCheck}
-use Rattle.polygon.specs.Grids.{isMixed, gridCheck}
-use Rattle.polygon.specs.Verdict.{verdictBy}
-use Rattle.polygon.specs.Pair.{pairCheck, judgeFrom}
-use Rattle.search.specs.Walk.{lookedFrom}
+use Rattle.polygon.specs.Vertices.{vertices_count}
+use Rattle.polygon.specs.Checks.{judge_check}
+use Rattle.polygon.specs.Grids.{is_mixed, grid_check}
+use Rattle.polygon.specs.Verdict.{verdict_by}
+use Rattle.polygon.specs.Pair.{pair_check, judge_from}
+use Rattle.search.specs.Walk.{looked_from}
 use Rattle.search.specs.declared.walk.Tally.{Tally}
 use Rattle.search.specs.declared.walk.Tally.TheVariants.{Held, Crossed}
 
-abbrev pub verdictOn : Tally → Answer
-verdictOn (Held edge) = Boundary edge
-verdictOn (Crossed crossed sum) = verdictBy Nothing crossed sum
+abbrev pub verdict_on : Tally → Answer
+verdict_on (Held edge) = Boundary edge
+verdict_on (Crossed crossed sum) = verdict_by Nothing crossed sum
 
 -- None for a refusal; else of all edges, for a boundary up to and including the edge named.
-abbrev pub lookedAfter : Check → ℕ → ℕ
-lookedAfter (Failed number place) looked = 0
-lookedAfter Passed looked = looked
+abbrev pub looked_after : Check → ℕ → ℕ
+looked_after (Failed number place) looked = 0
+looked_after Passed looked = looked
 
-unfoldable pub lookedOf : ℕ → List ℤ → Point → Point → ℕ
-lookedOf limit vs X P = lookedAfter (judgeCheck limit vs X P) (lookedFrom vs X P 0 (vertexCount vs))
+unfoldable pub looked_of : ℕ → List ℤ → Point → Point → ℕ
+looked_of limit vs X P = looked_after (judge_check limit vs X P) (looked_from vs X P 0 (vertices_count vs))
 
 -- With a grid for each record (document 02, P8).
-unfoldable pub gridLookedOf : Grid → List ℤ → GridPoint → GridPoint → ℕ
-gridLookedOf g vs X P =
-    lookedAfter (gridCheck vs (isMixed g (X.grid ∷ P.grid ∷ []))) (lookedOf (limitOf g) vs X.point P.point)
+unfoldable pub grid_looked_of : Grid → List ℤ → GridPoint → GridPoint → ℕ
+grid_looked_of g vs X P =
+    looked_after (grid_check vs (is_mixed g (X.grid ∷ P.grid ∷ []))) (looked_of (limit_of g) vs X.point P.point)
 
 -- With both known points (document 02, P4): by the point that judges.
-unfoldable pub gridLookedPairOf : Grid → List ℤ → GridPoint → GridPoint → GridPoint → ℕ
-gridLookedPairOf g vs X Y P =
-    lookedAfter (gridCheck vs (isMixed g (X.grid ∷ Y.grid ∷ P.grid ∷ [])))
-    (lookedAfter (pairCheck (limitOf g) vs X.point Y.point)
-    (lookedOf (limitOf g) vs (judgeFrom X.point Y.point P.point) P.point))
+unfoldable pub grid_looked_pair_of : Grid → List ℤ → GridPoint → GridPoint → GridPoint → ℕ
+grid_looked_pair_of g vs X Y P =
+    looked_after (grid_check vs (is_mixed g (X.grid ∷ Y.grid ∷ P.grid ∷ [])))
+    (looked_after (pair_check (limit_of g) vs X.point Y.point)
+    (looked_of (limit_of g) vs (judge_from X.point Y.point P.point) P.point))

@@ -2,9 +2,9 @@
 // judged_pair, judge_pair, looked_pair (two), choose_second. Each record says its grid, and mixed grids are refused (document 02, P8): a list
 // has its grid beside it.
 ghost use Rattle.std.specs.Prelude.{◌≡◌};
-ghost use Rattle.polygon.specs.Grids.{gridAnswerOf, gridPairOf, gridChooseOf};
-ghost use Rattle.search.specs.Walk.{lookedIn};
-ghost use Rattle.judging.specs.Judge.{gridLookedOf, gridLookedPairOf};
+ghost use Rattle.polygon.specs.Grids.{grid_answer_of, grid_pair_of, grid_choose_of};
+ghost use Rattle.search.specs.Walk.{looked_in};
+ghost use Rattle.judging.specs.Judge.{grid_looked_of, grid_looked_pair_of};
 
 use crate::accept::{accept_boxed, no_second};
 use crate::judge::{Judgement, judge_boxed, unjudged};
@@ -16,8 +16,8 @@ use sphere::point::{Grid, GridPoint};
 
 // One query, from one known point, in the mode that is asked for.
 fn judged(grid: Grid, vertices: &[i32], known: GridPoint, query: GridPoint, mode: Mode) -> Judgement
-    ensures { (result.answer ≡ gridAnswerOf grid vertices.now known query)
-        × (result.looked ≡ lookedIn mode (gridLookedOf grid vertices.now known query)) }
+    ensures { (result.answer ≡ grid_answer_of grid vertices.now known query)
+        × (result.looked ≡ looked_in mode (grid_looked_of grid vertices.now known query)) }
 {
     let g = known.grid;
     let h = query.grid;
@@ -35,14 +35,14 @@ fn judged(grid: Grid, vertices: &[i32], known: GridPoint, query: GridPoint, mode
 }
 
 pub fn judge(grid: Grid, vertices: &[i32], known: GridPoint, query: GridPoint) -> Answer
-    ensures { result ≡ gridAnswerOf grid vertices.now known query }
+    ensures { result ≡ grid_answer_of grid vertices.now known query }
 {
     judged(grid, vertices, known, query, Mode::Boxed).answer
 }
 
 // How many edges `judge` looks at (document 02, P2).
 pub fn looked(grid: Grid, vertices: &[i32], known: GridPoint, query: GridPoint) -> u32
-    ensures { result ≡ gridLookedOf grid vertices.now known query }
+    ensures { result ≡ grid_looked_of grid vertices.now known query }
 {
     judged(grid, vertices, known, query, Mode::Counted).looked
 }
@@ -56,8 +56,8 @@ fn judged_pair(
     query: GridPoint,
     mode: Mode,
 ) -> Judgement
-    ensures { (result.answer ≡ gridPairOf grid vertices.now known second query)
-        × (result.looked ≡ lookedIn mode (gridLookedPairOf grid vertices.now known second query)) }
+    ensures { (result.answer ≡ grid_pair_of grid vertices.now known second query)
+        × (result.looked ≡ looked_in mode (grid_looked_pair_of grid vertices.now known second query)) }
 {
     let g = known.grid;
     let h = second.grid;
@@ -89,7 +89,7 @@ pub fn judge_pair(
     second: GridPoint,
     query: GridPoint,
 ) -> Answer
-    ensures { result ≡ gridPairOf grid vertices.now known second query }
+    ensures { result ≡ grid_pair_of grid vertices.now known second query }
 {
     judged_pair(grid, vertices, known, second, query, Mode::Boxed).answer
 }
@@ -102,7 +102,7 @@ pub fn looked_pair(
     second: GridPoint,
     query: GridPoint,
 ) -> u32
-    ensures { result ≡ gridLookedPairOf grid vertices.now known second query }
+    ensures { result ≡ grid_looked_pair_of grid vertices.now known second query }
 {
     judged_pair(grid, vertices, known, second, query, Mode::Counted).looked
 }
@@ -115,7 +115,7 @@ pub fn choose_second(
     candidates_grid: Grid,
     candidates: &[i32],
 ) -> Answer
-    ensures { result ≡ gridChooseOf grid vertices.now known candidates_grid
+    ensures { result ≡ grid_choose_of grid vertices.now known candidates_grid
         candidates.now }
 {
     let g = known.grid;

@@ -2,15 +2,15 @@
 // there is one (document 02, P4). Here, in order: by_parity, verdict_on; judge_from; Judgement, unjudged, judge_boxed.
 // Document 01, 'What comes back'. The polygon is accepted, with its boxes; what users call is in `calls`.
 ghost use Rattle.std.specs.Prelude.{◌≡◌};
-ghost use Rattle.sphere.specs.Point.{fine, limitOf, Within};
+ghost use Rattle.sphere.specs.Point.{fine, limit_of, Within};
 ghost use Rattle.answer.specs.declared.Check.TheVariants.{Passed};
 ghost use Rattle.answer.specs.declared.Answer.TheVariants.{Refused};
 ghost use Rattle.answer.specs.declared.Found.TheVariants.{Nothing};
-ghost use Rattle.polygon.specs.Pair.{judgeFrom, optionalCheck};
-ghost use Rattle.polygon.specs.Verdict.{verdictBy, answer_of};
+ghost use Rattle.polygon.specs.Pair.{judge_from, optional_check};
+ghost use Rattle.polygon.specs.Verdict.{verdict_by, answer_of};
 ghost use Rattle.search.specs.Boxes.{Boxed};
-ghost use Rattle.search.specs.Walk.{lookedIn};
-ghost use Rattle.judging.specs.Judge.{verdictOn, lookedOf};
+ghost use Rattle.search.specs.Walk.{looked_in};
+ghost use Rattle.judging.specs.Judge.{verdict_on, looked_of};
 
 use answer::{Answer, Check};
 use polygon::checks::{far_check, query_check};
@@ -20,7 +20,7 @@ use sphere::point::{Grid, Point, is_null};
 
 // An even number of crossings means inside.
 fn by_parity(crossed: u32, sum: i32) -> Answer
-    ensures { result ≡ verdictBy Nothing crossed sum }
+    ensures { result ≡ verdict_by Nothing crossed sum }
 {
     if crossed % 2 == 0 {
         return Answer::Inside(crossed, sum);
@@ -30,7 +30,7 @@ fn by_parity(crossed: u32, sum: i32) -> Answer
 
 // Boundary, or by parity.
 pub fn verdict_on(tally: Tally) -> Answer
-    ensures { result ≡ verdictOn tally }
+    ensures { result ≡ verdict_on tally }
 {
     match tally {
         Tally::Held(edge) => Answer::Boundary(edge),
@@ -41,7 +41,7 @@ pub fn verdict_on(tally: Tally) -> Answer
 // The point that judges.
 fn judge_from(known: Point, second: Point, query: Point) -> Point
     requires { Within fine known × Within fine query }
-    ensures { result ≡ judgeFrom known second query }
+    ensures { result ≡ judge_from known second query }
 {
     if is_null(second) {
         return known;
@@ -78,10 +78,10 @@ pub fn judge_boxed(
     query: Point,
     mode: Mode,
 ) -> Judgement
-    requires { (optionalCheck (limitOf grid) vertices.now known second ≡ Passed)
+    requires { (optional_check (limit_of grid) vertices.now known second ≡ Passed)
         × Boxed vertices.now boxes.now }
-    ensures { (result.answer ≡ answer_of (limitOf grid) vertices.now (judgeFrom known second query) query)
-        × (result.looked ≡ lookedIn mode (lookedOf (limitOf grid) vertices.now (judgeFrom known second query)
+    ensures { (result.answer ≡ answer_of (limit_of grid) vertices.now (judge_from known second query) query)
+        × (result.looked ≡ looked_in mode (looked_of (limit_of grid) vertices.now (judge_from known second query)
         query)) }
 {
     match query_check(grid, query) {

@@ -2,12 +2,12 @@
 // Here, in order: is_second, second_check (19), pair_boxed, optional_check (10 to 16, 19), earliest. The polygon is
 // checked once: of a candidate only lines 15 and 16 are left to check.
 ghost use Rattle.std.specs.Prelude.{◌≡◌};
-ghost use Rattle.sphere.specs.Point.{limitOf};
+ghost use Rattle.sphere.specs.Point.{limit_of};
 ghost use Rattle.answer.specs.declared.Check.TheVariants.{Passed};
-ghost use Rattle.polygon.specs.Checks.{acceptCheck};
-ghost use Rattle.polygon.specs.Pair.{isSecond, secondCheck, pairCheck, optionalCheck, earliestOf};
+ghost use Rattle.polygon.specs.Checks.{accept_check};
+ghost use Rattle.polygon.specs.Pair.{is_second, second_check, pair_check, optional_check, earliest_of};
 ghost use Rattle.search.specs.Boxes.{Boxed};
-ghost use Rattle.judging.specs.Accept.{BoxRoom, boxedAfter};
+ghost use Rattle.judging.specs.Accept.{BoxRoom, boxed_after};
 
 use crate::accept::{accept_boxed, no_second};
 use crate::judge::judge_boxed;
@@ -26,8 +26,8 @@ pub fn is_second(
     known: Point,
     candidate: Point,
 ) -> bool
-    requires { (acceptCheck (limitOf grid) vertices.now known ≡ Passed) × Boxed vertices.now boxes.now }
-    ensures { result ≡ isSecond (limitOf grid) vertices.now known candidate }
+    requires { (accept_check (limit_of grid) vertices.now known ≡ Passed) × Boxed vertices.now boxes.now }
+    ensures { result ≡ is_second (limit_of grid) vertices.now known candidate }
 {
     if accepts(grid, vertices, candidate) {
         if same_direction(known, candidate) {
@@ -48,8 +48,8 @@ pub fn second_check(
     known: Point,
     second: Point,
 ) -> Check
-    requires { (acceptCheck (limitOf grid) vertices.now known ≡ Passed) × Boxed vertices.now boxes.now }
-    ensures { result ≡ secondCheck (limitOf grid) vertices.now known second }
+    requires { (accept_check (limit_of grid) vertices.now known ≡ Passed) × Boxed vertices.now boxes.now }
+    ensures { result ≡ second_check (limit_of grid) vertices.now known second }
 {
     if is_second(grid, vertices, boxes, known, second) {
         return Check::Passed;
@@ -66,8 +66,8 @@ pub(crate) fn pair_boxed(
     second: Point,
 ) -> Check
     requires { BoxRoom vertices.now boxes.old }
-    ensures { (result ≡ pairCheck (limitOf grid) vertices.now known second)
-        × (boxes.new ≡ boxedAfter (acceptCheck (limitOf grid) vertices.now known)
+    ensures { (result ≡ pair_check (limit_of grid) vertices.now known second)
+        × (boxes.new ≡ boxed_after (accept_check (limit_of grid) vertices.now known)
         vertices.now boxes.old) }
 {
     match accept_boxed(grid, vertices, boxes, known) {
@@ -79,7 +79,7 @@ pub(crate) fn pair_boxed(
 
 // The polygon with a second point or none: any numbers.
 pub fn optional_check(grid: Grid, vertices: &[i32], known: Point, second: Point) -> Check
-    ensures { result ≡ optionalCheck (limitOf grid) vertices.now known second }
+    ensures { result ≡ optional_check (limit_of grid) vertices.now known second }
 {
     let mut boxes = [0i32; 768];
     match accept_boxed(grid, vertices, &mut boxes, known) {
@@ -100,8 +100,8 @@ pub(crate) fn earliest(
     known: Point,
     candidates: &[i32],
 ) -> Answer
-    requires { (acceptCheck (limitOf grid) vertices.now known ≡ Passed) × Boxed vertices.now boxes.now }
-    ensures { result ≡ earliestOf (limitOf grid) vertices.now known candidates.now }
+    requires { (accept_check (limit_of grid) vertices.now known ≡ Passed) × Boxed vertices.now boxes.now }
+    ensures { result ≡ earliest_of (limit_of grid) vertices.now known candidates.now }
 {
     let n = candidates.len() / 3;
     for i in 0..n {

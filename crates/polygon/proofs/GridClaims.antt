@@ -1,6 +1,6 @@
--- The proofs of specs/GridClaims. Proved, in order: whole-other, answer-other, pair-other, choose-other (what stands
--- beside 28 has another number), mixed-exactly-holds; listed_answer, listed-pair, listed-choose (what follows 28 begins
--- with line 10 itself), one-grid-holds; on-each-grid-holds.
+-- The proofs of specs/GridClaims. Proved, in order: whole_other, answer_other, pair_other, choose_other (what stands
+-- beside 28 has another number), mixed_exactly_holds; listed_answer, listed_pair, listed_choose (what follows 28 begins
+-- with line 10 itself), one_grid_holds; on_each_grid_holds.
 use mathlib.Core.Path.{◌≡◌, refl, sym}
 use mathlib.Core.Bool.{false, not}
 use mathlib.Core.List.{List, [], ◌∷◌}
@@ -10,85 +10,85 @@ use lib.IntN.{ℤ}
 use Rattle.sphere.specs.declared.point.Point.{Point}
 use Rattle.sphere.specs.declared.point.Grid.{Grid}
 use Rattle.sphere.specs.declared.point.Grid.TheVariants.{Coarse, Fine}
-use Rattle.sphere.specs.Point.{limitOf}
+use Rattle.sphere.specs.Point.{limit_of}
 use Rattle.answer.specs.declared.Found.{Found}
 use Rattle.answer.specs.declared.Found.TheVariants.{Nothing, At}
 use Rattle.answer.specs.declared.Answer.{Answer}
 use Rattle.answer.specs.declared.Answer.TheVariants.{Refused}
 use Rattle.answer.specs.declared.Check.{Check}
 use Rattle.answer.specs.declared.Check.TheVariants.{Passed, Failed}
-use Rattle.answer.specs.Search.{firstFrom}
-use Rattle.polygon.specs.Vertices.{vertexCount, vertexAt}
-use Rattle.answer.specs.Answer.{number_of, answerAfter}
-use Rattle.answer.specs.Chain.{◌then◌, failsIf}
-use Rattle.polygon.specs.Checks.{listCheck, polygonCheck, acceptCheck, judgeCheck}
-use Rattle.polygon.specs.Checks.{beyondCheck, nullCheck, sameCheck, antipodalCheck, referenceCheck, circleCheck}
-use Rattle.polygon.specs.Checks.{queryCheck, farCheck}
-use Rattle.polygon.specs.Verdict.{verdictOf, answer_of}
-use Rattle.polygon.specs.Pair.{isSecond, secondCheck, pairCheck, judgeFrom, pairAnswerOf}
-use Rattle.polygon.specs.Pair.{is_whole, chosen, earliestOf, chooseOf}
-use Rattle.polygon.specs.Grids.{isMixed, gridCheck, gridAnswerOf, gridPairOf, gridChooseOf}
+use Rattle.answer.specs.Search.{first_from}
+use Rattle.polygon.specs.Vertices.{vertices_count, vertex_at}
+use Rattle.answer.specs.Answer.{number_of, answer_after}
+use Rattle.answer.specs.Chain.{◌then◌, fails_if}
+use Rattle.polygon.specs.Checks.{list_check, polygon_check, accept_check, judge_check}
+use Rattle.polygon.specs.Checks.{beyond_check, null_check, same_check, antipodal_check, reference_check, circle_check}
+use Rattle.polygon.specs.Checks.{query_check, far_check}
+use Rattle.polygon.specs.Verdict.{verdict_of, answer_of}
+use Rattle.polygon.specs.Pair.{is_second, second_check, pair_check, judge_from, pair_answer_of}
+use Rattle.polygon.specs.Pair.{is_whole, chosen, earliest_of, choose_of}
+use Rattle.polygon.specs.Grids.{is_mixed, grid_check, grid_answer_of, grid_pair_of, grid_choose_of}
 use Rattle.polygon.specs.GridClaims.{MixedExactly, OneGrid, OnEachGrid}
-use Rattle.answer.proofs.Laws.Chain.{then-assoc}
-use Rattle.answer.proofs.Laws.Numbers.{Numbered, Other, ◌both◌, if-numbered, after-numbered}
-use Rattle.polygon.proofs.Laws.Numbers.{pair-numbered}
-use Rattle.polygon.proofs.Laws.Numbers.{answer-numbered}
-use Rattle.polygon.proofs.Laws.Mixed.{mixed-after, list-other, accept-other}
+use Rattle.answer.proofs.Laws.Chain.{then_assoc}
+use Rattle.answer.proofs.Laws.Numbers.{Numbered, Other, ◌both◌, if_numbered, after_numbered}
+use Rattle.polygon.proofs.Laws.Numbers.{pair_numbered}
+use Rattle.polygon.proofs.Laws.Numbers.{answer_numbered}
+use Rattle.polygon.proofs.Laws.Mixed.{mixed_after, list_other, accept_other}
 use Rattle.polygon.proofs.Demand2.{demand-2, demand-2-pair}
 use Rattle.polygon.proofs.Demand3.{demand-3, demand-3-pair}
 
 -- ---- 28
-whole-other : (cs : List ℤ) → Numbered (Other 28) (failsIf 10 (not (is_whole cs)))
-whole-other cs = if-numbered 10 (not (is_whole cs)) (λ e. omega arith)
+whole_other : (cs : List ℤ) → Numbered (Other 28) (fails_if 10 (not (is_whole cs)))
+whole_other cs = if_numbered 10 (not (is_whole cs)) (λ e. omega arith)
 
 module _ (limit : ℕ) (vs : List ℤ) where
-  answer-other : (X P : Point) → Other 28 (number_of (answer_of limit vs X P))
-  answer-other = answer-numbered (Other 28) limit vs (λ n l m e. omega (arith, m, e))
+  answer_other : (X P : Point) → Other 28 (number_of (answer_of limit vs X P))
+  answer_other = answer_numbered (Other 28) limit vs (λ n l m e. omega (arith, m, e))
 
-  pair-other : (X Y P : Point) → Other 28 (number_of (pairAnswerOf limit vs X Y P))
-  unfolding pairAnswerOf
-  pair-other X Y P =
-      after-numbered (pairCheck limit vs X Y) (answer_of limit vs (judgeFrom X Y P) P)
-      (pair-numbered (Other 28) limit vs (list-other vs) (λ n l m e. omega (arith, m, e)) X (λ e. omega arith) Y)
-      (answer-other (judgeFrom X Y P) P)
+  pair_other : (X Y P : Point) → Other 28 (number_of (pair_answer_of limit vs X Y P))
+  unfolding pair_answer_of
+  pair_other X Y P =
+      after_numbered (pair_check limit vs X Y) (answer_of limit vs (judge_from X Y P) P)
+      (pair_numbered (Other 28) limit vs (list_other vs) (λ n l m e. omega (arith, m, e)) X (λ e. omega arith) Y)
+      (answer_other (judge_from X Y P) P)
 
-  choose-other : (X : Point) (cs : List ℤ) → Other 28 (number_of (chooseOf limit vs X cs))
-  unfolding chooseOf earliestOf
-  choose-other X cs =
-      after-numbered (failsIf 10 (not (is_whole cs)) then acceptCheck limit vs X) (earliestOf limit vs X cs)
-      (whole-other cs both accept-other limit vs X)
-      (go (firstFrom (λ i. isSecond limit vs X (vertexAt cs i)) 0 (vertexCount cs)))
+  choose_other : (X : Point) (cs : List ℤ) → Other 28 (number_of (choose_of limit vs X cs))
+  unfolding choose_of earliest_of
+  choose_other X cs =
+      after_numbered (fails_if 10 (not (is_whole cs)) then accept_check limit vs X) (earliest_of limit vs X cs)
+      (whole_other cs both accept_other limit vs X)
+      (go (first_from (λ i. is_second limit vs X (vertex_at cs i)) 0 (vertices_count cs)))
     where
       go : (f : Found) → Other 28 (number_of (chosen f))
       go Nothing e = omega arith
       go (At place) e = omega arith
 
-pub mixed-exactly-holds : MixedExactly
-unfolding gridAnswerOf gridPairOf gridChooseOf gridCheck
-mixed-exactly-holds = (
-  λ g vs X P. mixed-after (listCheck vs) _ _ (list-other vs) (answer-other (limitOf g) vs X.point P.point),
+pub mixed_exactly_holds : MixedExactly
+unfolding grid_answer_of grid_pair_of grid_choose_of grid_check
+mixed_exactly_holds = (
+  λ g vs X P. mixed_after (list_check vs) _ _ (list_other vs) (answer_other (limit_of g) vs X.point P.point),
   λ g vs X Y P.
-      mixed-after (listCheck vs) _ _ (list-other vs) (pair-other (limitOf g) vs X.point Y.point P.point),
+      mixed_after (list_check vs) _ _ (list_other vs) (pair_other (limit_of g) vs X.point Y.point P.point),
   λ g vs X h cs.
-      let whole = failsIf 10 (not (is_whole cs)) in
-      rw (then-assoc whole (listCheck vs) (failsIf 28 (isMixed g (X.grid ∷ h ∷ []))))
-      (mixed-after (whole then listCheck vs) _ _ (whole-other cs both list-other vs)
-      (choose-other (limitOf g) vs X.point cs)),
+      let whole = fails_if 10 (not (is_whole cs)) in
+      rw (then_assoc whole (list_check vs) (fails_if 28 (is_mixed g (X.grid ∷ h ∷ []))))
+      (mixed_after (whole then list_check vs) _ _ (whole_other cs both list_other vs)
+      (choose_other (limit_of g) vs X.point cs)),
 )
 
 -- ---- one grid
 
-same-twice : (g : Grid) → isMixed g (g ∷ g ∷ []) ≡ false
-same-twice Coarse = refl
-same-twice Fine = refl
+same_twice : (g : Grid) → is_mixed g (g ∷ g ∷ []) ≡ false
+same_twice Coarse = refl
+same_twice Fine = refl
 
-same-thrice : (g : Grid) → isMixed g (g ∷ g ∷ g ∷ []) ≡ false
-same-thrice Coarse = refl
-same-thrice Fine = refl
+same_thrice : (g : Grid) → is_mixed g (g ∷ g ∷ g ∷ []) ≡ false
+same_thrice Coarse = refl
+same_thrice Fine = refl
 
 -- What follows a check that it begins with.
 again : (c : Check) (answer : Check → Answer) → ((n p : ℕ) → answer (Failed n p) ≡ Refused n p) →
-    answerAfter (c then Passed) (answer c) ≡ answer c
+    answer_after (c then Passed) (answer c) ≡ answer c
 again Passed answer h = refl
 again (Failed number place) answer h = sym (h number place)
 
@@ -96,44 +96,44 @@ module _ (limit : ℕ) (vs : List ℤ) where
   -- Lines 11 to 16, after line 10.
   abbrev rest : Check → Point → Check
   rest c X =
-      (c then beyondCheck limit vs then nullCheck vs then sameCheck vs then antipodalCheck vs)
-      then referenceCheck limit X then circleCheck vs X
+      (c then beyond_check limit vs then null_check vs then same_check vs then antipodal_check vs)
+      then reference_check limit X then circle_check vs X
 
-  listed_answer : (X P : Point) → answerAfter (listCheck vs then Passed) (answer_of limit vs X P) ≡ answer_of limit vs X P
-  unfolding answer_of judgeCheck acceptCheck polygonCheck
+  listed_answer : (X P : Point) → answer_after (list_check vs then Passed) (answer_of limit vs X P) ≡ answer_of limit vs X P
+  unfolding answer_of judge_check accept_check polygon_check
   listed_answer X P =
-      again (listCheck vs) (λ c. answerAfter (rest c X then queryCheck limit P then farCheck X P) (verdictOf vs X P))
+      again (list_check vs) (λ c. answer_after (rest c X then query_check limit P then far_check X P) (verdict_of vs X P))
       (λ n p. refl)
 
-  listed-pair : (X Y P : Point) →
-      answerAfter (listCheck vs then Passed) (pairAnswerOf limit vs X Y P) ≡ pairAnswerOf limit vs X Y P
-  unfolding pairAnswerOf pairCheck acceptCheck polygonCheck
-  listed-pair X Y P =
-      again (listCheck vs)
-      (λ c. answerAfter (rest c X then secondCheck limit vs X Y) (answer_of limit vs (judgeFrom X Y P) P)) (λ n p. refl)
+  listed_pair : (X Y P : Point) →
+      answer_after (list_check vs then Passed) (pair_answer_of limit vs X Y P) ≡ pair_answer_of limit vs X Y P
+  unfolding pair_answer_of pair_check accept_check polygon_check
+  listed_pair X Y P =
+      again (list_check vs)
+      (λ c. answer_after (rest c X then second_check limit vs X Y) (answer_of limit vs (judge_from X Y P) P)) (λ n p. refl)
 
-  listed-choose : (X : Point) (cs : List ℤ) →
-      answerAfter (failsIf 10 (not (is_whole cs)) then listCheck vs then Passed) (chooseOf limit vs X cs)
-      ≡ chooseOf limit vs X cs
-  unfolding chooseOf acceptCheck polygonCheck
-  listed-choose X cs = go (failsIf 10 (not (is_whole cs)))
+  listed_choose : (X : Point) (cs : List ℤ) →
+      answer_after (fails_if 10 (not (is_whole cs)) then list_check vs then Passed) (choose_of limit vs X cs)
+      ≡ choose_of limit vs X cs
+  unfolding choose_of accept_check polygon_check
+  listed_choose X cs = go (fails_if 10 (not (is_whole cs)))
     where
       go : (whole : Check) →
-          answerAfter (whole then listCheck vs then Passed)
-          (answerAfter (whole then rest (listCheck vs) X) (earliestOf limit vs X cs))
-          ≡ answerAfter (whole then rest (listCheck vs) X) (earliestOf limit vs X cs)
-      go Passed = again (listCheck vs) (λ c. answerAfter (rest c X) (earliestOf limit vs X cs)) (λ n p. refl)
+          answer_after (whole then list_check vs then Passed)
+          (answer_after (whole then rest (list_check vs) X) (earliest_of limit vs X cs))
+          ≡ answer_after (whole then rest (list_check vs) X) (earliest_of limit vs X cs)
+      go Passed = again (list_check vs) (λ c. answer_after (rest c X) (earliest_of limit vs X cs)) (λ n p. refl)
       go (Failed number place) = refl
 
-pub one-grid-holds : OneGrid
-unfolding gridAnswerOf gridPairOf gridChooseOf gridCheck
-one-grid-holds = (
-  λ g vs X P. rw (same-twice g) (listed_answer (limitOf g) vs X P),
-  λ g vs X Y P. rw (same-thrice g) (listed-pair (limitOf g) vs X Y P),
-  λ g vs X cs. rw (same-twice g) (listed-choose (limitOf g) vs X cs),
+pub one_grid_holds : OneGrid
+unfolding grid_answer_of grid_pair_of grid_choose_of grid_check
+one_grid_holds = (
+  λ g vs X P. rw (same_twice g) (listed_answer (limit_of g) vs X P),
+  λ g vs X Y P. rw (same_thrice g) (listed_pair (limit_of g) vs X Y P),
+  λ g vs X cs. rw (same_twice g) (listed_choose (limit_of g) vs X cs),
 )
 
 -- ---- the demands
-pub on-each-grid-holds : OnEachGrid
-on-each-grid-holds g =
-    (demand-2 (limitOf g), demand-3 (limitOf g), demand-2-pair (limitOf g), demand-3-pair (limitOf g))
+pub on_each_grid_holds : OnEachGrid
+on_each_grid_holds g =
+    (demand-2 (limit_of g), demand-3 (limit_of g), demand-2-pair (limit_of g), demand-3-pair (limit_of g))

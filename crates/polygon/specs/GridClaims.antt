@@ -5,17 +5,17 @@ use Rattle.std.specs.Prelude.{◌≡◌, Bool, true, not, List, [], ◌∷◌, �
 use Rattle.sphere.specs.declared.point.Point.{Point}
 use Rattle.sphere.specs.declared.point.Grid.{Grid}
 use Rattle.sphere.specs.declared.point.GridPoint.{GridPoint}
-use Rattle.sphere.specs.Point.{limitOf}
+use Rattle.sphere.specs.Point.{limit_of}
 use Rattle.answer.specs.declared.Answer.{Answer}
 use Rattle.answer.specs.declared.Answer.TheVariants.{Refused}
 use Rattle.answer.specs.declared.Check.{Check}
 use Rattle.answer.specs.declared.Check.TheVariants.{Passed}
 use Rattle.answer.specs.Answer.{number_of}
-use Rattle.answer.specs.Chain.{◌then◌, failsIf}
-use Rattle.polygon.specs.Checks.{listCheck}
+use Rattle.answer.specs.Chain.{◌then◌, fails_if}
+use Rattle.polygon.specs.Checks.{list_check}
 use Rattle.polygon.specs.Verdict.{answer_of}
-use Rattle.polygon.specs.Pair.{pairAnswerOf, is_whole, chooseOf}
-use Rattle.polygon.specs.Grids.{isMixed, gridAnswerOf, gridPairOf, gridChooseOf}
+use Rattle.polygon.specs.Pair.{pair_answer_of, is_whole, choose_of}
+use Rattle.polygon.specs.Grids.{is_mixed, grid_answer_of, grid_pair_of, grid_choose_of}
 use Rattle.polygon.specs.Claims.{Demand2At, Demand3At}
 use Rattle.polygon.specs.PairClaims.{Demand2PairAt, Demand3PairAt}
 
@@ -27,11 +27,11 @@ pub record Mixed (answer : Answer) (before : Check) (mixed : Bool) : Type 0 wher
 abbrev pub MixedExactly : Type 0
 MixedExactly =
     ((g : Grid) (vs : List ℤ) (X P : GridPoint) →
-    Mixed (gridAnswerOf g vs X P) (listCheck vs) (isMixed g (X.grid ∷ P.grid ∷ [])))
+    Mixed (grid_answer_of g vs X P) (list_check vs) (is_mixed g (X.grid ∷ P.grid ∷ [])))
     × ((g : Grid) (vs : List ℤ) (X Y P : GridPoint) →
-    Mixed (gridPairOf g vs X Y P) (listCheck vs) (isMixed g (X.grid ∷ Y.grid ∷ P.grid ∷ [])))
+    Mixed (grid_pair_of g vs X Y P) (list_check vs) (is_mixed g (X.grid ∷ Y.grid ∷ P.grid ∷ [])))
     × ((g : Grid) (vs : List ℤ) (X : GridPoint) (h : Grid) (cs : List ℤ) →
-    Mixed (gridChooseOf g vs X h cs) (failsIf 10 (not (is_whole cs)) then listCheck vs) (isMixed g (X.grid ∷ h ∷ [])))
+    Mixed (grid_choose_of g vs X h cs) (fails_if 10 (not (is_whole cs)) then list_check vs) (is_mixed g (X.grid ∷ h ∷ [])))
 
 -- A point's record on a grid.
 abbrev pub on : Grid → Point → GridPoint
@@ -39,12 +39,12 @@ on g X = record { grid = g; point = X }
 
 abbrev pub OneGrid : Type 0
 OneGrid =
-    ((g : Grid) (vs : List ℤ) (X P : Point) → gridAnswerOf g vs (on g X) (on g P) ≡ answer_of (limitOf g) vs X P)
+    ((g : Grid) (vs : List ℤ) (X P : Point) → grid_answer_of g vs (on g X) (on g P) ≡ answer_of (limit_of g) vs X P)
     × ((g : Grid) (vs : List ℤ) (X Y P : Point) →
-    gridPairOf g vs (on g X) (on g Y) (on g P) ≡ pairAnswerOf (limitOf g) vs X Y P)
+    grid_pair_of g vs (on g X) (on g Y) (on g P) ≡ pair_answer_of (limit_of g) vs X Y P)
     × ((g : Grid) (vs : List ℤ) (X : Point) (cs : List ℤ) →
-    gridChooseOf g vs (on g X) g cs ≡ chooseOf (limitOf g) vs X cs)
+    grid_choose_of g vs (on g X) g cs ≡ choose_of (limit_of g) vs X cs)
 
 abbrev pub OnEachGrid : Type 0
 OnEachGrid = (g : Grid) →
-    Demand2At (limitOf g) × Demand3At (limitOf g) × Demand2PairAt (limitOf g) × Demand3PairAt (limitOf g)
+    Demand2At (limit_of g) × Demand3At (limit_of g) × Demand2PairAt (limit_of g) × Demand3PairAt (limit_of g)

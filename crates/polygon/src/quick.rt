@@ -3,13 +3,13 @@
 // off_circles (16); far_at, count_far, is_near (11).
 ghost use Rattle.std.specs.Prelude.{◌≡◌, false, cond, ◌-◌, ◌<◌, pos, length, get_or};
 ghost use Rattle.integers.specs.Sign.{sign_of, is_zero};
-ghost use Rattle.sphere.specs.Point.{limitOf, isFar, Within};
-ghost use Rattle.sphere.specs.Orientation.{dotOf};
+ghost use Rattle.sphere.specs.Point.{limit_of, is_far, Within};
+ghost use Rattle.sphere.specs.Orientation.{dot_of};
 ghost use Rattle.sphere.specs.Plane.{Sound};
-ghost use Rattle.answer.specs.Chain.{isPassed};
-ghost use Rattle.polygon.specs.Checks.{beyondCheck, circleCheck};
-ghost use Rattle.polygon.specs.Lines.{isOnCircle};
-ghost use Rattle.polygon.specs.Vertices.{vertexCount};
+ghost use Rattle.answer.specs.Chain.{is_passed};
+ghost use Rattle.polygon.specs.Checks.{beyond_check, circle_check};
+ghost use Rattle.polygon.specs.Lines.{is_on_circle};
+ghost use Rattle.polygon.specs.Vertices.{vertices_count};
 ghost use Rattle.polygon.specs.Accepted.{Listed, Gridded, FarCount, IfPassed};
 
 use crate::vertices::{end_of, number_at, vertex_at};
@@ -19,17 +19,17 @@ use sphere::point::{Grid, Point, is_far};
 
 // A point lies in the plane.
 fn is_level(plane: Plane, p: Point) -> bool
-    requires { Sound plane × Within (limitOf plane.grid) p }
-    ensures { result ≡ is_zero (sign_of (dotOf plane.normal p)) }
+    requires { Sound plane × Within (limit_of plane.grid) p }
+    ensures { result ≡ is_zero (sign_of (dot_of plane.normal p)) }
 {
     side_of(plane, p) == 0
 }
 
 // The great circle of edge i holds the point.
 fn is_on_circle(grid: Grid, vertices: &[i32], i: usize, point: Point) -> bool
-    requires { (i < vertexCount vertices.now) × Gridded (limitOf grid) vertices.now
-        × Within (limitOf grid) point }
-    ensures { result ≡ isOnCircle vertices.now point i }
+    requires { (i < vertices_count vertices.now) × Gridded (limit_of grid) vertices.now
+        × Within (limit_of grid) point }
+    ensures { result ≡ is_on_circle vertices.now point i }
 {
     on_circle(grid, vertex_at(vertices, i), end_of(vertices, i), point)
 }
@@ -38,10 +38,10 @@ fn is_on_circle(grid: Grid, vertices: &[i32], i: usize, point: Point) -> bool
 // circles where the far ends of the two are off the plane through it and the vertex between them, and that plane is
 // made once.
 fn off_pairs(grid: Grid, vertices: &[i32], point: Point) -> bool
-    requires listed { Listed vertices.now × Gridded (limitOf grid) vertices.now × Within (limitOf grid) point }
-    requires vertices_value { (isOnCircle vertices.now point (vertexCount vertices.now - 2) ≡ false)
-        × (isOnCircle vertices.now point (vertexCount vertices.now - 1) ≡ false) }
-    ensures { result ≡ isPassed (circleCheck vertices.now point) }
+    requires listed { Listed vertices.now × Gridded (limit_of grid) vertices.now × Within (limit_of grid) point }
+    requires vertices_value { (is_on_circle vertices.now point (vertices_count vertices.now - 2) ≡ false)
+        × (is_on_circle vertices.now point (vertices_count vertices.now - 1) ≡ false) }
+    ensures { result ≡ is_passed (circle_check vertices.now point) }
 {
     let n = vertices.len() / 3;
     let mut from = vertex_at(vertices, 0);
@@ -65,8 +65,8 @@ fn off_pairs(grid: Grid, vertices: &[i32], point: Point) -> bool
 // The same for all edges, the closing one among them. The grid is written out, so that each has a compiled loop of its
 // own.
 pub(crate) fn off_circles(grid: Grid, vertices: &[i32], point: Point) -> bool
-    requires { Listed vertices.now × Gridded (limitOf grid) vertices.now × Within (limitOf grid) point }
-    ensures { result ≡ isPassed (circleCheck vertices.now point) }
+    requires { Listed vertices.now × Gridded (limit_of grid) vertices.now × Within (limit_of grid) point }
+    ensures { result ≡ is_passed (circle_check vertices.now point) }
 {
     let n = vertices.len() / 3;
     if is_on_circle(grid, vertices, n - 2, point) {
@@ -84,7 +84,7 @@ pub(crate) fn off_circles(grid: Grid, vertices: &[i32], point: Point) -> bool
 // 1 for a number of the list beyond the grid, and else 0.
 fn far_at(grid: Grid, vertices: &[i32], k: usize) -> u32
     requires { k < length vertices.now }
-    ensures { result ≡ cond (isFar (limitOf grid) (get_or vertices.now k (pos 0))) 1 0 }
+    ensures { result ≡ cond (is_far (limit_of grid) (get_or vertices.now k (pos 0))) 1 0 }
 {
     if is_far(grid, number_at(vertices, k)) {
         return 1;
@@ -96,7 +96,7 @@ fn far_at(grid: Grid, vertices: &[i32], k: usize) -> u32
 // once.
 fn count_far(grid: Grid, vertices: &[i32]) -> u32
     requires { Listed vertices.now }
-    ensures { FarCount (limitOf grid) vertices.now (length vertices.now) result }
+    ensures { FarCount (limit_of grid) vertices.now (length vertices.now) result }
 {
     let mut far = 0u32;
     for k in 0..vertices.len() {
@@ -108,7 +108,7 @@ fn count_far(grid: Grid, vertices: &[i32]) -> u32
 // Line 11 passes, asked with the grid written out: the limit is then a constant of the compiled loop.
 pub(crate) fn is_near(grid: Grid, vertices: &[i32]) -> bool
     requires { Listed vertices.now }
-    ensures { IfPassed result (beyondCheck (limitOf grid) vertices.now) }
+    ensures { IfPassed result (beyond_check (limit_of grid) vertices.now) }
 {
     match grid {
         Grid::Coarse => count_far(Grid::Coarse, vertices) == 0,

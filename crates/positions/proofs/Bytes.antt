@@ -1,4 +1,4 @@
--- That a list is of bytes, as a test that the checker computes. Defined: are_bytes. Proved: are-bytes, bytes-tested (it is
+-- That a list is of bytes, as a test that the checker computes. Defined: are_bytes. Proved: are_bytes_lem, bytes_tested (it is
 -- AreBytes, of big_endian).
 use mathlib.Core.Bool.{Bool, true, ◌&&◌}
 use mathlib.Core.List.{List, [], ◌∷◌}
@@ -11,12 +11,12 @@ abbrev pub are_bytes : List ℕ → Bool
 are_bytes [] = true
 are_bytes (b ∷ bs) = ltb b 256 && are_bytes bs
 
-pub are-bytes : (bs : List ℕ) → T (are_bytes bs) → AreBytes bs
-are-bytes [] t i = lit< tt
-are-bytes (b ∷ bs) t zero = ltb→lt b 256 (and_l (ltb b 256) (are_bytes bs) t)
-are-bytes (b ∷ bs) t (suc i) = are-bytes bs (and_r (ltb b 256) (are_bytes bs) t) i
+pub are_bytes_lem : (bs : List ℕ) → T (are_bytes bs) → AreBytes bs
+are_bytes_lem [] t i = lit< tt
+are_bytes_lem (b ∷ bs) t zero = ltb→lt b 256 (and_l (ltb b 256) (are_bytes bs) t)
+are_bytes_lem (b ∷ bs) t (suc i) = are_bytes_lem bs (and_r (ltb b 256) (are_bytes bs) t) i
 
-pub bytes-tested : (bs : List ℕ) → AreBytes bs → T (are_bytes bs)
-bytes-tested [] are = tt
-bytes-tested (b ∷ bs) are =
-    and_i (ltb b 256) (are_bytes bs) (lt→ltb b 256 (are 0)) (bytes-tested bs (λ i. are (suc i)))
+pub bytes_tested : (bs : List ℕ) → AreBytes bs → T (are_bytes bs)
+bytes_tested [] are = tt
+bytes_tested (b ∷ bs) are =
+    and_i (ltb b 256) (are_bytes bs) (lt→ltb b 256 (are 0)) (bytes_tested bs (λ i. are (suc i)))

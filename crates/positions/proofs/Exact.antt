@@ -1,6 +1,6 @@
 -- What the code holds of a number is all of it, or past the range. Defined: clamp (a number at most 200 degrees in
--- size), clampAll. Proved, in order: clamp-signed, digit-held, pending-held, step-held, walked-held; outside-clamp,
--- first-clamp, same-clamp, check-clamp; held-check, held-length, held_same.
+-- size), clamp_all. Proved, in order: clamp_signed, digit_held, pending_held, step_held, walked_held; outside_clamp,
+-- first_clamp, same_clamp, check_clamp; held_check, held_length, held_same.
 use mathlib.Core.Path.{◌≡◌, refl, sym, ap, ◌∙◌}
 use mathlib.Core.Bool.{Bool, true, false, not, cond, ◌||◌, true≢false}
 use mathlib.Core.List.{List, [], ◌∷◌, ◌++◌}
@@ -10,34 +10,34 @@ use borrow.Author.Tests.{ltb-true, ltb-false, lt-ltb, le-ltb}
 use lib.Dec.{eqb, ltb}
 use lib.IntN.{ℤ, pos, negsuc, nat_abs}
 use lib.ListN.{length, get_or}
-use Rattle.sphere.specs.Point.{isFar}
+use Rattle.sphere.specs.Point.{is_far}
 use Rattle.answer.specs.declared.Found.{Found}
 use Rattle.answer.specs.declared.Found.TheVariants.{Nothing, At}
 use Rattle.answer.specs.declared.Check.{Check}
 use Rattle.answer.specs.declared.Check.TheVariants.{Passed, Failed}
-use Rattle.answer.specs.Chain.{◌then◌, failsIf, failsAt}
-use Rattle.answer.proofs.Laws.Chain.{then-passed}
+use Rattle.answer.specs.Chain.{◌then◌, fails_if, fails_at}
+use Rattle.answer.proofs.Laws.Chain.{then_passed}
 use Rattle.angles.specs.declared.point.Position.{Position}
-use Rattle.angles.specs.Point.{signed_of, isOutside}
+use Rattle.angles.specs.Point.{signed_of, is_outside}
 use Rattle.angles.proofs.Numbers.{neither}
 use Rattle.positions.specs.declared.number.Pending.{Pending}
-use Rattle.positions.specs.Number.{Walk, fresh, digitOf, isDigit, pendingOf, isEnd, position_of, stepped}
-use Rattle.positions.specs.Number.{walked, exact, positionsOf, most, held}
-use Rattle.positions.specs.Ring.{firstOutside, firstDistant, is_ring, ringCheck}
+use Rattle.positions.specs.Number.{Walk, fresh, digit_of, is_digit, pending_of, is_end, position_of, stepped}
+use Rattle.positions.specs.Number.{walked, exact, positions_of, most, held}
+use Rattle.positions.specs.Ring.{first_outside, first_distant, is_ring, ring_check}
 
 abbrev clamp : ℤ → ℤ
 clamp (pos n) = pos (min n 2000000000)
 clamp (negsuc n) = negsuc (min n 1999999999)
 
-abbrev clampOne : Position → Position
-clampOne p = record { lon = clamp p.lon; lat = clamp p.lat }
+abbrev clamp_one : Position → Position
+clamp_one p = record { lon = clamp p.lon; lat = clamp p.lat }
 
-clampAll : List Position → List Position
-clampAll [] = []
-clampAll (p ∷ ps) = clampOne p ∷ clampAll ps
+clamp_all : List Position → List Position
+clamp_all [] = []
+clamp_all (p ∷ ps) = clamp_one p ∷ clamp_all ps
 
-abbrev heldPending : Pending → Pending
-heldPending p = record {
+abbrev held_pending : Pending → Pending
+held_pending p = record {
   negative = p.negative;
   digits = p.digits;
   size = min p.size 2000000000;
@@ -45,26 +45,26 @@ heldPending p = record {
   lon = clamp p.lon;
 }
 
-heldWalk : Walk → Walk
-heldWalk w = record { pending = heldPending w.pending; done = clampAll w.done }
+held_walk : Walk → Walk
+held_walk w = record { pending = held_pending w.pending; done = clamp_all w.done }
 
 -- ---- one byte more
 
-clamp-signed : (t : Bool) (n : ℕ) → signed_of t (min n 2000000000) ≡ clamp (signed_of t n)
-clamp-signed true zero = refl
-clamp-signed true (suc n) = let e : min (suc n) 2000000000 ≡ suc (min n 1999999999) = omega arith in rw e
-clamp-signed false n = refl
+clamp_signed : (t : Bool) (n : ℕ) → signed_of t (min n 2000000000) ≡ clamp (signed_of t n)
+clamp_signed true zero = refl
+clamp_signed true (suc n) = let e : min (suc n) 2000000000 ≡ suc (min n 1999999999) = omega arith in rw e
+clamp_signed false n = refl
 
-before-point : (s d : ℕ) →
+before_point : (s d : ℕ) →
     min (min s 2000000000 * 10 + d * 10000000) 2000000000 ≡ min (s * 10 + d * 10000000) 2000000000
-before-point s d = omega arith
+before_point s d = omega arith
 
-after-point : (s x : ℕ) → min (min s 2000000000 + x) 2000000000 ≡ min (s + x) 2000000000
-after-point s x = omega arith
+after_point : (s x : ℕ) → min (min s 2000000000 + x) 2000000000 ≡ min (s + x) 2000000000
+after_point s x = omega arith
 
-digit-held : (p : Pending) (d : ℕ) → digitOf held (heldPending p) d ≡ heldPending (digitOf exact p d)
-unfolding digitOf
-digit-held p d = go (eqb p.unit 0)
+digit_held : (p : Pending) (d : ℕ) → digit_of held (held_pending p) d ≡ held_pending (digit_of exact p d)
+unfolding digit_of
+digit_held p d = go (eqb p.unit 0)
   where
     go : (t : Bool) →
         cond t (record {
@@ -80,7 +80,7 @@ digit-held p d = go (eqb p.unit 0)
           unit = p.unit / 10;
           lon = clamp p.lon;
         })
-        ≡ heldPending (cond t (record {
+        ≡ held_pending (cond t (record {
           negative = p.negative;
           digits = true;
           size = p.size * 10 + d * 10000000;
@@ -93,8 +93,8 @@ digit-held p d = go (eqb p.unit 0)
           unit = p.unit / 10;
           lon = p.lon;
         }))
-    go true = rw (before-point p.size d)
-    go false = rw (after-point p.size (d * (p.unit / 10)))
+    go true = rw (before_point p.size d)
+    go false = rw (after_point p.size (d * (p.unit / 10)))
 
 module _ (p : Pending) where
   abbrev minus : Pending
@@ -106,136 +106,136 @@ module _ (p : Pending) where
   abbrev comma : Pending
   comma = record { negative = false; digits = false; size = 0; unit = 0; lon = signed_of p.negative p.size }
 
-pending-held : (p : Pending) (b : ℕ) → pendingOf held (heldPending p) b ≡ heldPending (pendingOf exact p b)
-unfolding pendingOf
-pending-held p b = go (isDigit b) (eqb b 45) (eqb b 46) (eqb b 44)
+pending_held : (p : Pending) (b : ℕ) → pending_of held (held_pending p) b ≡ held_pending (pending_of exact p b)
+unfolding pending_of
+pending_held p b = go (is_digit b) (eqb b 45) (eqb b 46) (eqb b 44)
   where
     go : (s t u v : Bool) →
-        cond s (digitOf held (heldPending p) (b - 48))
-        (cond t (minus (heldPending p))
-        (cond u (point (heldPending p)) (cond v (comma (heldPending p)) (heldPending p))))
-        ≡ heldPending (cond s (digitOf exact p (b - 48)) (cond t (minus p) (cond u (point p) (cond v (comma p) p))))
-    go true t u v = digit-held p (b - 48)
+        cond s (digit_of held (held_pending p) (b - 48))
+        (cond t (minus (held_pending p))
+        (cond u (point (held_pending p)) (cond v (comma (held_pending p)) (held_pending p))))
+        ≡ held_pending (cond s (digit_of exact p (b - 48)) (cond t (minus p) (cond u (point p) (cond v (comma p) p))))
+    go true t u v = digit_held p (b - 48)
     go false true u v = refl
     go false false true v = refl
-    go false false false true = rw (clamp-signed p.negative p.size)
+    go false false false true = rw (clamp_signed p.negative p.size)
     go false false false false = refl
 
-clamp-snoc : (ps : List Position) (p : Position) → clampAll (ps ++ (p ∷ [])) ≡ clampAll ps ++ (clampOne p ∷ [])
-unfolding clampAll
-clamp-snoc [] p = refl
-clamp-snoc (q ∷ qs) p = ap (λ (l : List Position). clampOne q ∷ l) (clamp-snoc qs p)
+clamp_snoc : (ps : List Position) (p : Position) → clamp_all (ps ++ (p ∷ [])) ≡ clamp_all ps ++ (clamp_one p ∷ [])
+unfolding clamp_all
+clamp_snoc [] p = refl
+clamp_snoc (q ∷ qs) p = ap (λ (l : List Position). clamp_one q ∷ l) (clamp_snoc qs p)
 
-step-held : (w : Walk) (b : ℕ) → stepped held (heldWalk w) b ≡ heldWalk (stepped exact w b)
-unfolding stepped heldWalk isEnd
-step-held w b = go (isEnd w.pending b)
+step_held : (w : Walk) (b : ℕ) → stepped held (held_walk w) b ≡ held_walk (stepped exact w b)
+unfolding stepped held_walk is_end
+step_held w b = go (is_end w.pending b)
   where
     go : (t : Bool) →
         ◌≡◌ {A = Walk}
-        (cond t (record { pending = fresh; done = clampAll w.done ++ (position_of (heldPending w.pending) ∷ []) })
-        (record { pending = pendingOf held (heldPending w.pending) b; done = clampAll w.done }))
-        (heldWalk (cond t (record { pending = fresh; done = w.done ++ (position_of w.pending ∷ []) })
-        (record { pending = pendingOf exact w.pending b; done = w.done })))
+        (cond t (record { pending = fresh; done = clamp_all w.done ++ (position_of (held_pending w.pending) ∷ []) })
+        (record { pending = pending_of held (held_pending w.pending) b; done = clamp_all w.done }))
+        (held_walk (cond t (record { pending = fresh; done = w.done ++ (position_of w.pending ∷ []) })
+        (record { pending = pending_of exact w.pending b; done = w.done })))
     go true = rw (
-      clamp-snoc w.done (position_of w.pending),
-      clamp-signed w.pending.negative
+      clamp_snoc w.done (position_of w.pending),
+      clamp_signed w.pending.negative
           w.pending.size,
     )
-    go false = rw (pending-held w.pending b)
+    go false = rw (pending_held w.pending b)
 
-walked-held : (text : List ℕ) (i : ℕ) → walked held text i ≡ heldWalk (walked exact text i)
-unfolding walked heldWalk clampAll
-walked-held text zero = refl
-walked-held text (suc i) =
-    ap (λ (w : Walk). stepped held w (get_or text i 0)) (walked-held text i) ∙ step-held (walked exact text i)
+walked_held : (text : List ℕ) (i : ℕ) → walked held text i ≡ held_walk (walked exact text i)
+unfolding walked held_walk clamp_all
+walked_held text zero = refl
+walked_held text (suc i) =
+    ap (λ (w : Walk). stepped held w (get_or text i 0)) (walked_held text i) ∙ step_held (walked exact text i)
     (get_or text i 0)
 
 -- ---- the checks
 
-far-min : (k n : ℕ) → k < 2000000000 → ltb k (min n 2000000000) ≡ ltb k n
-far-min k n h = go (ltb k n) refl
+far_min : (k n : ℕ) → k < 2000000000 → ltb k (min n 2000000000) ≡ ltb k n
+far_min k n h = go (ltb k n) refl
   where
     go : (t : Bool) → ltb k n ≡ t → ltb k (min n 2000000000) ≡ ltb k n
     go true e = let l = ltb-true k n e in lt-ltb k (min n 2000000000) (omega arith) ∙ sym e
     go false e = let l = ltb-false k n e in le-ltb k (min n 2000000000) (omega arith) ∙ sym e
 
-far-clamp : (k : ℕ) → k < 2000000000 → (z : ℤ) → isFar k (clamp z) ≡ isFar k z
-unfolding isFar
-far-clamp k h (pos n) = far-min k n h
-far-clamp k h (negsuc n) =
-    let e : suc (min n 1999999999) ≡ min (suc n) 2000000000 = omega arith in rw e (far-min k (suc n) h)
+far_clamp : (k : ℕ) → k < 2000000000 → (z : ℤ) → is_far k (clamp z) ≡ is_far k z
+unfolding is_far
+far_clamp k h (pos n) = far_min k n h
+far_clamp k h (negsuc n) =
+    let e : suc (min n 1999999999) ≡ min (suc n) 2000000000 = omega arith in rw e (far_min k (suc n) h)
 
-outside-clamp : (p : Position) → isOutside (clampOne p) ≡ isOutside p
-unfolding isOutside
-outside-clamp p = rw (far-clamp 1800000000 (omega arith) p.lon, far-clamp 900000000 (omega arith) p.lat)
+outside_clamp : (p : Position) → is_outside (clamp_one p) ≡ is_outside p
+unfolding is_outside
+outside_clamp p = rw (far_clamp 1800000000 (omega arith) p.lon, far_clamp 900000000 (omega arith) p.lat)
 
-first-clamp : (ps : List Position) (i : ℕ) → firstOutside i (clampAll ps) ≡ firstOutside i ps
-unfolding firstOutside clampAll
-first-clamp [] i = refl
-first-clamp (p ∷ ps) i = rw (outside-clamp p, first-clamp ps (suc i))
+first_clamp : (ps : List Position) (i : ℕ) → first_outside i (clamp_all ps) ≡ first_outside i ps
+unfolding first_outside clamp_all
+first_clamp [] i = refl
+first_clamp (p ∷ ps) i = rw (outside_clamp p, first_clamp ps (suc i))
 
-near-clamp : (k : ℕ) → k < 2000000000 → (z : ℤ) → isFar k z ≡ false → clamp z ≡ z
-unfolding isFar
-near-clamp k h (pos n) e =
+near_clamp : (k : ℕ) → k < 2000000000 → (z : ℤ) → is_far k z ≡ false → clamp z ≡ z
+unfolding is_far
+near_clamp k h (pos n) e =
     let l = ltb-false k n e in let m : min n 2000000000 ≡ n = omega arith in ap pos m
-near-clamp k h (negsuc n) e =
+near_clamp k h (negsuc n) e =
     let l = ltb-false k (suc n) e in let m : min n 1999999999 ≡ n = omega arith in ap negsuc m
 
-inside-clamp : (p : Position) → isOutside p ≡ false → clampOne p ≡ p
-unfolding isOutside
-inside-clamp p e =
-    let h = neither (isFar 1800000000 p.lon) (isFar 900000000 p.lat) e in
-    let a = near-clamp 1800000000 (omega arith) p.lon h.0 in
-    let b = near-clamp 900000000 (omega arith) p.lat h.1 in
+inside_clamp : (p : Position) → is_outside p ≡ false → clamp_one p ≡ p
+unfolding is_outside
+inside_clamp p e =
+    let h = neither (is_far 1800000000 p.lon) (is_far 900000000 p.lat) e in
+    let a = near_clamp 1800000000 (omega arith) p.lon h.0 in
+    let b = near_clamp 900000000 (omega arith) p.lat h.1 in
     λ i. record { lon = a i; lat = b i }
 
 found : (i : ℕ) → At i ≡ Nothing → ⊥
 found i e = let z : ◌≡◌ {A = ℕ} 0 1 = cc in omega arith
 
-same-clamp : (ps : List Position) (i : ℕ) → firstOutside i ps ≡ Nothing → clampAll ps ≡ ps
-unfolding firstOutside clampAll
-same-clamp [] i e = refl
-same-clamp (p ∷ ps) i e = go (isOutside p) refl e (same-clamp ps (suc i))
+same_clamp : (ps : List Position) (i : ℕ) → first_outside i ps ≡ Nothing → clamp_all ps ≡ ps
+unfolding first_outside clamp_all
+same_clamp [] i e = refl
+same_clamp (p ∷ ps) i e = go (is_outside p) refl e (same_clamp ps (suc i))
   where
-    go : (t : Bool) → isOutside p ≡ t → cond t (At i) (firstOutside (suc i) ps) ≡ Nothing →
-        (firstOutside (suc i) ps ≡ Nothing → clampAll ps ≡ ps) → clampOne p ∷ clampAll ps ≡ p ∷ ps
+    go : (t : Bool) → is_outside p ≡ t → cond t (At i) (first_outside (suc i) ps) ≡ Nothing →
+        (first_outside (suc i) ps ≡ Nothing → clamp_all ps ≡ ps) → clamp_one p ∷ clamp_all ps ≡ p ∷ ps
     go true o e r = absurd (found i e)
-    go false o e r = λ j. inside-clamp p o j ∷ r e j
+    go false o e r = λ j. inside_clamp p o j ∷ r e j
 
-check-clamp : (ps : List Position) → ringCheck (clampAll ps) ≡ ringCheck ps
-unfolding ringCheck
-check-clamp ps = go (firstOutside 0 ps) refl
+check_clamp : (ps : List Position) → ring_check (clamp_all ps) ≡ ring_check ps
+unfolding ring_check
+check_clamp ps = go (first_outside 0 ps) refl
   where
-    go : (f : Found) → firstOutside 0 ps ≡ f → ringCheck (clampAll ps) ≡ ringCheck ps
-    go Nothing e = ap ringCheck (same-clamp ps 0 e)
-    go (At i) e = rw (first-clamp ps 0, e)
+    go : (f : Found) → first_outside 0 ps ≡ f → ring_check (clamp_all ps) ≡ ring_check ps
+    go Nothing e = ap ring_check (same_clamp ps 0 e)
+    go (At i) e = rw (first_clamp ps 0, e)
 
-none-outside : (f : Found) → failsAt 31 f ≡ Passed → f ≡ Nothing
-none-outside Nothing e = refl
-none-outside (At i) e = absurd (let z : ◌≡◌ {A = ℕ} 0 1 = cc in omega arith)
+none_outside : (f : Found) → fails_at 31 f ≡ Passed → f ≡ Nothing
+none_outside Nothing e = refl
+none_outside (At i) e = absurd (let z : ◌≡◌ {A = ℕ} 0 1 = cc in omega arith)
 
-passed-same : (ps : List Position) → ringCheck ps ≡ Passed → clampAll ps ≡ ps
-unfolding ringCheck
-passed-same ps h =
-    same-clamp ps 0 (none-outside (firstOutside 0 ps) (then-passed (failsAt 31 (firstOutside 0 ps)) _ h).0)
+passed_same : (ps : List Position) → ring_check ps ≡ Passed → clamp_all ps ≡ ps
+unfolding ring_check
+passed_same ps h =
+    same_clamp ps 0 (none_outside (first_outside 0 ps) (then_passed (fails_at 31 (first_outside 0 ps)) _ h).0)
 
-length-clamp : (ps : List Position) → length (clampAll ps) ≡ length ps
-unfolding clampAll
-length-clamp [] = refl
-length-clamp (p ∷ ps) = ap suc (length-clamp ps)
+length_clamp : (ps : List Position) → length (clamp_all ps) ≡ length ps
+unfolding clamp_all
+length_clamp [] = refl
+length_clamp (p ∷ ps) = ap suc (length_clamp ps)
 
 -- ---- the whole text
 
 module _ (text : List ℕ) where
-  held_all : (walked held text (length text)).done ≡ clampAll (positionsOf text)
-  unfolding positionsOf heldWalk
-  held_all = ap (λ (w : Walk). w.done) (walked-held text (length text))
+  held_all : (walked held text (length text)).done ≡ clamp_all (positions_of text)
+  unfolding positions_of held_walk
+  held_all = ap (λ (w : Walk). w.done) (walked_held text (length text))
 
-  pub held-check : ringCheck (walked held text (length text)).done ≡ ringCheck (positionsOf text)
-  held-check = ap ringCheck held_all ∙ check-clamp (positionsOf text)
+  pub held_check : ring_check (walked held text (length text)).done ≡ ring_check (positions_of text)
+  held_check = ap ring_check held_all ∙ check_clamp (positions_of text)
 
-  pub held-length : length (walked held text (length text)).done ≡ length (positionsOf text)
-  held-length = ap length held_all ∙ length-clamp (positionsOf text)
+  pub held_length : length (walked held text (length text)).done ≡ length (positions_of text)
+  held_length = ap length held_all ∙ length_clamp (positions_of text)
 
-  pub held_same : ringCheck (positionsOf text) ≡ Passed → (walked held text (length text)).done ≡ positionsOf text
-  held_same h = held_all ∙ passed-same (positionsOf text) h
+  pub held_same : ring_check (positions_of text) ≡ Passed → (walked held text (length text)).done ≡ positions_of text
+  held_same h = held_all ∙ passed_same (positions_of text) h

@@ -10,7 +10,7 @@ use borrow.Author.Tests.{ltb-true, eq-eqb, ne_eqb}
 use Rattle.positions.specs.declared.grammar.State.{State}
 use Rattle.positions.specs.declared.grammar.Reading.{Reading}
 use Rattle.positions.specs.declared.grammar.Reading.TheVariants.{Whole, Dead}
-use Rattle.positions.specs.Text.{words, gaps, rows, class_of, pick, dead, ringNext, literal, next_of, pickReading}
+use Rattle.positions.specs.Text.{words, gaps, rows, class_of, pick, dead, ring_next, literal, next_of, pick_reading}
 use Rattle.positions.specs.Text.{read}
 
 pub record Ok (s : State) : Type 0 where
@@ -28,9 +28,9 @@ when false x y p q = q
 zero_ok : (n : ℕ) → n ≤ 76 → Ok (record { at = n; ring = 0 })
 zero_ok n h = record { at = h; ring = omega arith }
 
-pub next-ok : (s : State) (b : ℕ) → s.at < 76 → s.ring < 29 → Ok (next_of s b)
-unfolding next_of ringNext literal
-next-ok s b h k =
+pub next_ok : (s : State) (b : ℕ) → s.at < 76 → s.ring < 29 → Ok (next_of s b)
+unfolding next_of ring_next literal
+next_ok s b h k =
     let t = get_or rows (s.ring * 9 + class_of b) 0 in
     either (eqb (get_or words s.at 0) 256) _ _
     (when (ltb t 29) (record { at = s.at; ring = t }) _ (λ e. record { at = omega arith; ring = ltb-true t 29 e })
@@ -47,17 +47,17 @@ left n i h = omega arith
 none : (n i : ℕ) → n ≤ i → n - i ≡ 0
 none n i h = omega arith
 
-pub read-dead : (l : List ℕ) (s : State) (i n : ℕ) → i < n → (next_of s (get_or l i 0)).at ≡ 76 → read l s i (n - i)
+pub read_dead : (l : List ℕ) (s : State) (i n : ℕ) → i < n → (next_of s (get_or l i 0)).at ≡ 76 → read l s i (n - i)
     ≡ Dead i
 unfolding read
-read-dead l s i n h e = rw (left n i h, eq-eqb _ _ e)
+read_dead l s i n h e = rw (left n i h, eq-eqb _ _ e)
 
-pub read-on : (l : List ℕ) (s : State) (i n : ℕ) → i < n → ((next_of s (get_or l i 0)).at ≡ 76 → ⊥) → read l s i (n - i)
+pub read_on : (l : List ℕ) (s : State) (i n : ℕ) → i < n → ((next_of s (get_or l i 0)).at ≡ 76 → ⊥) → read l s i (n - i)
     ≡ read l (next_of s (get_or l i 0)) (suc i) (n - suc i)
 unfolding read
-read-on l s i n h e = rw (left n i h, ne_eqb _ _ e)
+read_on l s i n h e = rw (left n i h, ne_eqb _ _ e)
 
-pub read-end : (l : List ℕ) (s : State) (i n : ℕ) → n ≤ i → read l s i (n - i) ≡ pickReading (eqb s.at 37) Whole
-    (pickReading (eqb s.at 75) Whole (Dead i))
+pub read_end : (l : List ℕ) (s : State) (i n : ℕ) → n ≤ i → read l s i (n - i) ≡ pick_reading (eqb s.at 37) Whole
+    (pick_reading (eqb s.at 75) Whole (Dead i))
 unfolding read
-read-end l s i n h = rw (none n i h)
+read_end l s i n h = rw (none n i h)

@@ -1,8 +1,8 @@
 -- Document 02, P7: the code's machine for the texts that can be imported, byte by byte. Which texts these are is said
 -- by their grammar in crate polygon_text, which proves that this machine takes them and no others: readers need not
--- believe what stands here. Defined, in order: words, gaps (the two texts around the ring), class_of, classTable
--- (classes of bytes), rows (the ring), dead, pick, ringNext, literal, next_of (one byte more), start, read (a whole
--- text); isPoint (the code's). Claims: what read calls dead is no text's beginning, and what comes before it is.
+-- believe what stands here. Defined, in order: words, gaps (the two texts around the ring), class_of, class_table
+-- (classes of bytes), rows (the ring), dead, pick, ring_next, literal, next_of (one byte more), start, read (a whole
+-- text); is_point (the code's). Claims: what read calls dead is no text's beginning, and what comes before it is.
 use Rattle.std.specs.Prelude.{Bool, true, false, cond, ◌&&◌, ◌||◌, List, [], ◌∷◌, ℕ, zero, suc, ◌+◌, ◌-◌, ◌*◌, ◌/◌, ◌%◌, ◌<◌, eqb, leb, ltb, length, get_or}
 use Rattle.positions.specs.declared.grammar.State.{State}
 use Rattle.positions.specs.declared.grammar.Reading.{Reading}
@@ -23,14 +23,14 @@ words =
     []
 
 -- White space may stand before what is not within quotes.
-abbrev pub gapsFrom : Bool → List ℕ → List ℕ
-gapsFrom q [] = []
-gapsFrom true (x ∷ xs) = 0 ∷ cond (eqb x 34) (gapsFrom false xs) (gapsFrom true xs)
-gapsFrom false (x ∷ xs) = 1 ∷ cond (eqb x 34) (gapsFrom true xs) (gapsFrom false xs)
+abbrev pub gaps_from : Bool → List ℕ → List ℕ
+gaps_from q [] = []
+gaps_from true (x ∷ xs) = 0 ∷ cond (eqb x 34) (gaps_from false xs) (gaps_from true xs)
+gaps_from false (x ∷ xs) = 1 ∷ cond (eqb x 34) (gaps_from true xs) (gaps_from false xs)
 
 unfoldable pub gaps : List ℕ
 unfolding words
-gaps = gapsFrom false words
+gaps = gaps_from false words
 
 -- 1 white space, 2 `[`, 3 `]`, 4 `,`, 5 `-`, 6 `0`, 7 another digit, 8 `.`, 0 any other byte
 unfoldable pub class_of : ℕ → ℕ
@@ -49,8 +49,8 @@ abbrev pub tabled : (ℕ → ℕ) → ℕ → ℕ → List ℕ
 tabled f i zero = []
 tabled f i (suc k) = f i ∷ tabled f (suc i) k
 
-unfoldable pub classTable : List ℕ
-classTable = tabled class_of 0 256
+unfoldable pub class_table : List ℕ
+class_table = tabled class_of 0 256
 
 -- The ring after its `[`: a row for each state, by the class of the next byte, 0 to 8. 29 is its end, and 30 is no
 -- text. The states, in order: nothing yet; after a position; after a comma between two; then twice the same, for a
@@ -96,8 +96,8 @@ abbrev pub pick : Bool → State → State → State
 pick true a b = a
 pick false a b = b
 
-unfoldable pub ringNext : State → ℕ → State
-ringNext s c =
+unfoldable pub ring_next : State → ℕ → State
+ring_next s c =
     let t = get_or rows (s.ring * 9 + c) 0 in
     pick (ltb t 29) (record { at = s.at; ring = t }) (pick (eqb t 29) (record { at = s.at + 1; ring = 0 }) dead)
 
@@ -110,21 +110,21 @@ literal s b c =
     (pick (eqb (get_or gaps s.at 0 * c) 1) s dead))
 
 unfoldable pub next_of : State → ℕ → State
-next_of s b = pick (eqb (get_or words s.at 0) 256) (ringNext s (class_of b)) (literal s b (class_of b))
+next_of s b = pick (eqb (get_or words s.at 0) 256) (ring_next s (class_of b)) (literal s b (class_of b))
 
 abbrev pub start : State
 start = record { at = 0; ring = 0 }
 
-abbrev pub pickReading : Bool → Reading → Reading → Reading
-pickReading true a b = a
-pickReading false a b = b
+abbrev pub pick_reading : Bool → Reading → Reading → Reading
+pick_reading true a b = a
+pick_reading false a b = b
 
 -- From the state s, at the place i of the text l, with k bytes left. 37 and 75 are the ends of the two texts.
 unfoldable pub read : List ℕ → State → ℕ → ℕ → Reading
-read l s i zero = pickReading (eqb s.at 37) Whole (pickReading (eqb s.at 75) Whole (Dead i))
+read l s i zero = pick_reading (eqb s.at 37) Whole (pick_reading (eqb s.at 75) Whole (Dead i))
 read l s i (suc k) =
-    pickReading (eqb (next_of s (get_or l i 0)).at 76) (Dead i) (read l (next_of s (get_or l i 0)) (suc i) k)
+    pick_reading (eqb (next_of s (get_or l i 0)).at 76) (Dead i) (read l (next_of s (get_or l i 0)) (suc i) k)
 
 -- ---- the code's: after a number's point, of a longitude or of a latitude
-unfoldable pub isPoint : State → Bool
-isPoint s = eqb (get_or words s.at 0) 256 && (eqb s.ring 7 || eqb s.ring 20)
+unfoldable pub is_point : State → Bool
+is_point s = eqb (get_or words s.at 0) 256 && (eqb s.ring 7 || eqb s.ring 20)

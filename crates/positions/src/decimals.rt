@@ -1,6 +1,6 @@
 // The decimals of a number at once: most bytes of a text are such. Here, in order: Run, is_more, decimals.
 ghost use Rattle.std.specs.Prelude.{◌≡◌, ◌&&◌, ◌≤◌, ltb, length, get_or};
-ghost use Rattle.positions.specs.Number.{isDigit, Small, onward, DigitRun};
+ghost use Rattle.positions.specs.Number.{is_digit, Small, onward, DigitRun};
 
 use crate::number::{Pending, is_digit, next};
 
@@ -12,7 +12,7 @@ pub struct Run {
 }
 
 fn is_more(text: &[u8], at: usize) -> bool
-    ensures { result ≡ (ltb at (length text.now) && isDigit (get_or text.now at 0)) }
+    ensures { result ≡ (ltb at (length text.now) && is_digit (get_or text.now at 0)) }
 {
     if at < text.len() {
         return is_digit(text[at]);

@@ -2,8 +2,8 @@
 // ring_table, class_of, wide, word_at, gap_at, row_at, ring_next, literal_next, is_ring, is_point, next. The texts and
 // the ring's states are tables.
 ghost use Rattle.std.specs.Prelude.{◌≡◌, ℕ, ◌+◌, ◌*◌, ◌/◌, ◌≤◌, ◌<◌, eqb, get_or};
-ghost use Rattle.positions.specs.Text.{words, gaps, rows, classTable, class_of, next_of, ringNext};
-ghost use Rattle.positions.specs.Text.{literal, isPoint};
+ghost use Rattle.positions.specs.Text.{words, gaps, rows, class_table, class_of, next_of, ring_next};
+ghost use Rattle.positions.specs.Text.{literal, is_point};
 
 use crate::tables::{CLASSES, GAPS, RING, WORDS};
 
@@ -22,7 +22,7 @@ pub enum Reading {
 // The two large tables. A constant is laid out anew wherever it is named, so a caller has them laid out once and lends
 // them.
 pub fn class_table() -> [u64; 256]
-    ensures { result ≡ classTable }
+    ensures { result ≡ class_table }
 {
     CLASSES
 }
@@ -34,7 +34,7 @@ pub fn ring_table() -> [u64; 261]
 }
 
 fn class_of(classes: &[u64; 256], b: u8) -> u64
-    requires { classes.now ≡ classTable }
+    requires { classes.now ≡ class_table }
     ensures { (result ≡ class_of b) × (result < 9) }
 {
     classes[b as usize]
@@ -69,7 +69,7 @@ fn row_at(ring: &[u64; 261], i: u64) -> u64
 
 fn ring_next(ring: &[u64; 261], s: State, c: u64) -> State
     requires { (s.at < 76) × (s.ring < 29) × (c < 9) × (ring.now ≡ rows) }
-    ensures { result ≡ ringNext s c }
+    ensures { result ≡ ring_next s c }
 {
     let t = row_at(ring, s.ring * 9 + c);
     if t < 29 {
@@ -118,7 +118,7 @@ fn is_ring(at: u64) -> bool
 // After a number's point, where up to seven decimals follow.
 pub fn is_point(s: State) -> bool
     requires { s.at < 76 }
-    ensures { result ≡ isPoint s }
+    ensures { result ≡ is_point s }
 {
     if is_ring(s.at) {
         if s.ring == 7 {
@@ -130,7 +130,7 @@ pub fn is_point(s: State) -> bool
 }
 
 pub fn next(classes: &[u64; 256], ring: &[u64; 261], s: State, byte: u8) -> State
-    requires { (s.at < 76) × (s.ring < 29) × (classes.now ≡ classTable) × (ring.now ≡ rows) }
+    requires { (s.at < 76) × (s.ring < 29) × (classes.now ≡ class_table) × (ring.now ≡ rows) }
     ensures { result ≡ next_of s byte }
 {
     if is_ring(s.at) {

@@ -1,7 +1,7 @@
 // Numbers and positions, one byte after the other. Here, in order: Pending, wide, capped, digit, is_digit, next, ends,
 // whole. A number is in ten-millionths of a degree; no more of its size is held than 200 degrees.
 ghost use Rattle.std.specs.Prelude.{◌≡◌, ◌≤◌, min};
-ghost use Rattle.positions.specs.Number.{digitOf, isDigit, pendingOf, isEnd, position_of, held, Small};
+ghost use Rattle.positions.specs.Number.{digit_of, is_digit, pending_of, is_end, position_of, held, Small};
 
 use angles::point::{Position, signed};
 
@@ -31,7 +31,7 @@ fn capped(n: u64) -> u64
 // One digit more: before the point ten times as much and whole degrees, after it a tenth of the unit before.
 fn digit(p: Pending, d: u64) -> Pending
     requires { Small p × (d ≤ 9) }
-    ensures { result ≡ digitOf held p d }
+    ensures { result ≡ digit_of held p d }
 {
     let unit = p.unit;
     if unit == 0 {
@@ -54,7 +54,7 @@ fn digit(p: Pending, d: u64) -> Pending
 }
 
 pub fn is_digit(b: u8) -> bool
-    ensures { result ≡ isDigit b }
+    ensures { result ≡ is_digit b }
 {
     if b < 48 {
         return false;
@@ -65,7 +65,7 @@ pub fn is_digit(b: u8) -> bool
 // After one byte more that ends no position.
 pub fn next(p: Pending, b: u8) -> Pending
     requires { Small p }
-    ensures { result ≡ pendingOf held p b }
+    ensures { result ≡ pending_of held p b }
 {
     if is_digit(b) {
         return digit(p, wide(b) - 48);
@@ -102,7 +102,7 @@ pub fn next(p: Pending, b: u8) -> Pending
 
 // A `]` after a number.
 pub fn ends(p: Pending, b: u8) -> bool
-    ensures { result ≡ isEnd p b }
+    ensures { result ≡ is_end p b }
 {
     if b == 93 { p.digits } else { false }
 }

@@ -2,8 +2,8 @@
 // Here, in order: Ring, difference, is_apart, is_distant, is_zero, is_equal, is_same, earliest, none, added, ring_check.
 ghost use Rattle.std.specs.Prelude.{◌≡◌, ◌+◌, ◌<◌, ◌≤◌, ◌-ℤ◌};
 ghost use Rattle.integers.specs.Sign.{sign_of, is_zero};
-ghost use Rattle.sphere.specs.Point.{isFar};
-ghost use Rattle.positions.specs.Ring.{isDistant, isSame, earliestOf, emptyRing, addedOf, checkOf};
+ghost use Rattle.sphere.specs.Point.{is_far};
+ghost use Rattle.positions.specs.Ring.{is_distant, is_same, earliest_of, empty_ring, added_of, check_of};
 
 use angles::point::{Position, is_outside, is_past};
 use answer::{Check, Found};
@@ -27,13 +27,13 @@ fn difference(a: i32, b: i32) -> i64
 }
 
 fn is_apart(a: i32, b: i32) -> bool
-    ensures { result ≡ isFar 10000000 (a -ℤ b) }
+    ensures { result ≡ is_far 10000000 (a -ℤ b) }
 {
     is_past(10000000, difference(a, b))
 }
 
 fn is_distant(p: Position, q: Position) -> bool
-    ensures { result ≡ isDistant p q }
+    ensures { result ≡ is_distant p q }
 {
     if is_apart(p.lon, q.lon) {
         return true;
@@ -54,7 +54,7 @@ fn is_equal(a: i32, b: i32) -> bool
 }
 
 fn is_same(p: Position, q: Position) -> bool
-    ensures { result ≡ isSame p q }
+    ensures { result ≡ is_same p q }
 {
     if is_equal(p.lon, q.lon) {
         return is_equal(p.lat, q.lat);
@@ -64,7 +64,7 @@ fn is_same(p: Position, q: Position) -> bool
 
 // The place that was found before, or this one where the test holds.
 fn earliest(before: Found, test: bool, place: usize) -> Found
-    ensures { result ≡ earliestOf before test place }
+    ensures { result ≡ earliest_of before test place }
 {
     match before {
         Found::At(i) => Found::At(i),
@@ -78,7 +78,7 @@ fn earliest(before: Found, test: bool, place: usize) -> Found
 }
 
 pub fn none() -> Ring
-    ensures { result ≡ emptyRing }
+    ensures { result ≡ empty_ring }
 {
     let p = Position { lon: 0, lat: 0 };
     Ring {
@@ -93,7 +93,7 @@ pub fn none() -> Ring
 // With one position more.
 pub fn added(r: Ring, p: Position) -> Ring
     requires { r.count + 1 ≤ 18446744073709551615 }
-    ensures { result ≡ addedOf r p }
+    ensures { result ≡ added_of r p }
 {
     let count = r.count;
     let before = r.outside;
@@ -122,7 +122,7 @@ pub fn added(r: Ring, p: Position) -> Ring
 
 // 31, 32 and 33, in this order.
 pub fn ring_check(r: Ring) -> Check
-    ensures { result ≡ checkOf r }
+    ensures { result ≡ check_of r }
 {
     let outside = r.outside;
     if let Found::At(place) = outside {

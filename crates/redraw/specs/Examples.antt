@@ -4,16 +4,16 @@
 use Rattle.std.specs.Prelude.{◌≡◌, List, [], ◌∷◌, ℤ, pos}
 use Rattle.sphere.specs.declared.point.Point.{Point}
 use Rattle.polygon.specs.Charts.{at, octant}
-use Rattle.redraw.specs.Redraw.{startedAt, Addable, addedTo}
+use Rattle.redraw.specs.Redraw.{started_at, Addable, added_to}
 
 abbrev pub middle : Point
 middle = at (pos 1) (pos 1) (pos 0)
 
 abbrev pub OctantRedrawn : Type 0
 OctantRedrawn =
-    (startedAt octant 1 ≡ pos 0 ∷ pos 1 ∷ pos 0 ∷ pos 0 ∷ pos 0 ∷ pos 1 ∷ pos 1 ∷ pos 0 ∷ pos 0 ∷ [])
+    (started_at octant 1 ≡ pos 0 ∷ pos 1 ∷ pos 0 ∷ pos 0 ∷ pos 0 ∷ pos 1 ∷ pos 1 ∷ pos 0 ∷ pos 0 ∷ [])
     × Addable octant 0 middle
-    × (addedTo octant 0 middle
+    × (added_to octant 0 middle
     ≡ pos 1 ∷ pos 0 ∷ pos 0 ∷ pos 1 ∷ pos 1 ∷ pos 0 ∷ pos 0 ∷ pos 1 ∷ pos 0 ∷ pos 0 ∷ pos 0 ∷ pos 1 ∷ [])
 
 abbrev corridor : List ℤ
@@ -21,6 +21,6 @@ corridor = pos 1 ∷ pos 0 ∷ pos 0 ∷ pos 0 ∷ pos 1 ∷ pos 0 ∷ pos 0 ∷
 
 abbrev pub CorridorRedrawn : Type 0
 CorridorRedrawn =
-    addedTo corridor 1 (at (pos 0) (pos 1) (pos 1))
+    added_to corridor 1 (at (pos 0) (pos 1) (pos 1))
     ≡ pos 1 ∷ pos 0 ∷ pos 0 ∷ pos 0 ∷ pos 1 ∷ pos 0 ∷ pos 0 ∷ pos 1 ∷ pos 1 ∷ pos 0 ∷ pos 0 ∷ pos 1
     ∷ pos 0 ∷ pos 1 ∷ pos 1 ∷ pos 0 ∷ pos 2 ∷ pos 0 ∷ []

@@ -1,128 +1,128 @@
--- The proofs of specs/Claims. Proved, in order: same-ring-unmoved, same-ring-pair-unmoved, same-ring-verdicts;
--- compared-passed, compared-way, compared-ring, compared-known; same-ring-sheets, same-ring-feeds; ring-field.
+-- The proofs of specs/Claims. Proved, in order: same_ring_unmoved, same_ring_pair_unmoved, same_ring_verdicts;
+-- compared-passed, compared-way, compared-ring, compared-known; same_ring_sheets, same_ring_feeds; ring_field.
 use mathlib.Core.Path.{◌≡◌, refl, sym, ◌∙◌}
 use mathlib.Core.Bool.{Bool, true, false, true≢false}
 use mathlib.Core.List.{List}
 use Prim.Native.Nat.{ℕ}
 use native.Mathlib.Omega.{arith}
-use Rattle.sphere.specs.Point.{limitOf}
-use Rattle.sphere.specs.Direction.{isSameDirection}
+use Rattle.sphere.specs.Point.{limit_of}
+use Rattle.sphere.specs.Direction.{is_same_direction}
 use Rattle.answer.specs.declared.Check.{Check}
 use Rattle.answer.specs.declared.Check.TheVariants.{Passed, Failed}
 use Rattle.answer.specs.Chain.{◌then◌}
-use Rattle.answer.proofs.Laws.Chain.{then-passed}
+use Rattle.answer.proofs.Laws.Chain.{then_passed}
 use Rattle.answer.proofs.Laws.Numbers.{Numbered, ◌both◌}
-use Rattle.polygon.proofs.Laws.Pair.{optional-first}
-use Rattle.fields.specs.Fields.{gridOf}
-use Rattle.sheet.specs.Sheet.{known_of, verticesOf, sheetCheck}
-use Rattle.sheet.proofs.Laws.Numbers.{Above, above-sheet}
-use Rattle.sheet.proofs.Laws.Reads.{sheet-accepted}
+use Rattle.polygon.proofs.Laws.Pair.{optional_first}
+use Rattle.fields.specs.Fields.{grid_of}
+use Rattle.sheet.specs.Sheet.{known_of, vertices_of, sheet_check}
+use Rattle.sheet.proofs.Laws.Numbers.{Above, above_sheet}
+use Rattle.sheet.proofs.Laws.Reads.{sheet_accepted}
 use Rattle.compare.specs.Ring.{SameRing, placed_of, way_of}
-use Rattle.compare.specs.Differences.{Field, known-field, vertices-field, zone-field, charset-field, name-field}
-use Rattle.compare.specs.Differences.{grid-field, second-field, fieldNumber}
-use Rattle.compare.specs.Comparison.{comparedAfter, comparisonOf}
+use Rattle.compare.specs.Differences.{Field, known_field, vertices_field, zone_field, charset_field, name_field}
+use Rattle.compare.specs.Differences.{grid_field, second_field_lem, field_number}
+use Rattle.compare.specs.Comparison.{compared_after, comparison_of}
 use Rattle.compare.specs.Claims.{Same}
-use Rattle.compare.proofs.RingClaims.{same-ring-told}
-use Rattle.compare.proofs.Claims.{fields-exact}
-use Rattle.redraw.proofs.Claims.{redrawn-holds, accepted, whole-list}
-use Rattle.redraw.proofs.Pair.{pair-unmoved, redrawn-verdicts, first-passed}
-use Rattle.redrawn_sheets.proofs.Claims.{redrawn-sheets, agreeing}
+use Rattle.compare.proofs.RingClaims.{same_ring_told}
+use Rattle.compare.proofs.Claims.{fields_exact}
+use Rattle.redraw.proofs.Claims.{redrawn_holds, accepted, whole_list}
+use Rattle.redraw.proofs.Pair.{pair_unmoved, redrawn_verdicts, first_passed}
+use Rattle.redrawn_sheets.proofs.Claims.{redrawn_sheets, agreeing}
 use Rattle.same_ring.specs.Claims.{SameRingUnmoved, SameRingPairUnmoved, SameRingVerdicts, Told}
 use Rattle.same_ring.specs.Claims.{SameRingSheets, SameRingFeeds, RingField}
-use Rattle.same_ring.proofs.Ring.{ring-redrawn}
+use Rattle.same_ring.proofs.Ring.{ring_redrawn}
 
 -- ---- over lists: an accepted list is of whole vertices
-pub same-ring-unmoved : SameRingUnmoved
-same-ring-unmoved ls rs s limit limit' X X' P P' b =
-    redrawn-holds ls rs (ring-redrawn ls rs (whole-list limit' rs X' (accepted limit' rs X' P' b.second)) s)
+pub same_ring_unmoved : SameRingUnmoved
+same_ring_unmoved ls rs s limit limit' X X' P P' b =
+    redrawn_holds ls rs (ring_redrawn ls rs (whole_list limit' rs X' (accepted limit' rs X' P' b.second)) s)
     limit limit' X X' P P' b
 
-pub same-ring-pair-unmoved : SameRingPairUnmoved
-same-ring-pair-unmoved ls rs s limit limit' X X₂ Y Y₂ P P' b =
-    pair-unmoved ls rs
-    (ring-redrawn ls rs (whole-list limit' rs Y (optional-first limit' rs Y Y₂ b.second)) s)
+pub same_ring_pair_unmoved : SameRingPairUnmoved
+same_ring_pair_unmoved ls rs s limit limit' X X₂ Y Y₂ P P' b =
+    pair_unmoved ls rs
+    (ring_redrawn ls rs (whole_list limit' rs Y (optional_first limit' rs Y Y₂ b.second)) s)
     limit limit' X X₂ Y Y₂ P P' b
 
-pub same-ring-verdicts : SameRingVerdicts
-same-ring-verdicts ls rs s limit limit' X X₂ Y Y₂ P P' b =
-    redrawn-verdicts ls rs
-    (ring-redrawn ls rs (whole-list limit' rs Y
-    (optional-first limit' rs Y Y₂ (first-passed limit' rs Y Y₂ P' b.second))) s)
+pub same_ring_verdicts : SameRingVerdicts
+same_ring_verdicts ls rs s limit limit' X X₂ Y Y₂ P P' b =
+    redrawn_verdicts ls rs
+    (ring_redrawn ls rs (whole_list limit' rs Y
+    (optional_first limit' rs Y Y₂ (first_passed limit' rs Y Y₂ P' b.second))) s)
     limit limit' X X₂ Y Y₂ P P' b
 
 -- ---- what comparing two sheets tells
-after-way : (k : Check) (b c : List ℕ) → ((comparedAfter k b c).way ≡ 0 → ⊥) → k ≡ Passed
-after-way Passed b c h = refl
-after-way (Failed number place) b c h = absurd (h refl)
+after_way : (k : Check) (b c : List ℕ) → ((compared_after k b c).way ≡ 0 → ⊥) → k ≡ Passed
+after_way Passed b c h = refl
+after_way (Failed number place) b c h = absurd (h refl)
 
-after-number : (k : Check) (b c : List ℕ) → Numbered (Above 10) k → (comparedAfter k b c).number ≡ 0 → k ≡ Passed
-after-number Passed b c h e = refl
-after-number (Failed number place) b c h e = let late = h.each number place refl in absurd (omega arith)
+after_number : (k : Check) (b c : List ℕ) → Numbered (Above 10) k → (compared_after k b c).number ≡ 0 → k ≡ Passed
+after_number Passed b c h e = refl
+after_number (Failed number place) b c h e = let late = h.each number place refl in absurd (omega arith)
 
 module _ (b c : List ℕ) where
   abbrev check : Check
-  check = sheetCheck b then sheetCheck c
+  check = sheet_check b then sheet_check c
 
-  read_number : check ≡ Passed → (comparisonOf b c).number ≡ 0
-  unfolding comparisonOf
+  read_number : check ≡ Passed → (comparison_of b c).number ≡ 0
+  unfolding comparison_of
   read_number e = rw e
 
-  read-way : check ≡ Passed → (comparisonOf b c).way ≡ way_of (placed_of (verticesOf b) (verticesOf c))
-  unfolding comparisonOf
-  read-way e = rw e
+  read_way : check ≡ Passed → (comparison_of b c).way ≡ way_of (placed_of (vertices_of b) (vertices_of c))
+  unfolding comparison_of
+  read_way e = rw e
 
-  way-passed : ((comparisonOf b c).way ≡ 0 → ⊥) → check ≡ Passed
-  unfolding comparisonOf
-  way-passed h = after-way check b c h
+  way_passed : ((comparison_of b c).way ≡ 0 → ⊥) → check ≡ Passed
+  unfolding comparison_of
+  way_passed h = after_way check b c h
 
-  number_passed : (comparisonOf b c).number ≡ 0 → check ≡ Passed
-  unfolding comparisonOf
-  number_passed e = after-number check b c (above-sheet b both above-sheet c) e
+  number_passed : (comparison_of b c).number ≡ 0 → check ≡ Passed
+  unfolding comparison_of
+  number_passed e = after_number check b c (above_sheet b both above_sheet c) e
 
-  way-ring : check ≡ Passed → ((comparisonOf b c).way ≡ 0 → ⊥) → SameRing (verticesOf b) (verticesOf c)
-  way-ring e h = (same-ring-told (verticesOf b) (verticesOf c)).way→same (λ w. h (read-way e ∙ w))
+  way_ring : check ≡ Passed → ((comparison_of b c).way ≡ 0 → ⊥) → SameRing (vertices_of b) (vertices_of c)
+  way_ring e h = (same_ring_told (vertices_of b) (vertices_of c)).way→same (λ w. h (read_way e ∙ w))
 
-  ring-way : check ≡ Passed → SameRing (verticesOf b) (verticesOf c) → (comparisonOf b c).way ≡ 0 → ⊥
-  ring-way e s w = (same-ring-told (verticesOf b) (verticesOf c)).same→way s (sym (read-way e) ∙ w)
+  ring_way : check ≡ Passed → SameRing (vertices_of b) (vertices_of c) → (comparison_of b c).way ≡ 0 → ⊥
+  ring_way e s w = (same_ring_told (vertices_of b) (vertices_of c)).same→way s (sym (read_way e) ∙ w)
 
   -- a field that is not told is the same
-  known_same : check ≡ Passed → (Told b c (fieldNumber known-field) → ⊥) →
-      isSameDirection (known_of b) (known_of c) ≡ true
-  known_same e h = go (isSameDirection (known_of b) (known_of c)) refl
+  known_same : check ≡ Passed → (Told b c (field_number known_field) → ⊥) →
+      is_same_direction (known_of b) (known_of c) ≡ true
+  known_same e h = go (is_same_direction (known_of b) (known_of c)) refl
     where
-      go : (t : Bool) → isSameDirection (known_of b) (known_of c) ≡ t → t ≡ true
+      go : (t : Bool) → is_same_direction (known_of b) (known_of c) ≡ t → t ≡ true
       go true d = refl
-      go false d = absurd (h ((fields-exact b c (read_number e)).every_one known-field (λ s. true≢false (sym s ∙ d))))
+      go false d = absurd (h ((fields_exact b c (read_number e)).every_one known_field (λ s. true≢false (sym s ∙ d))))
 
-pub same-ring-sheets : SameRingSheets
-same-ring-sheets b c f =
-    let e = way-passed b c f.way in
-    let right = sheet-accepted c (then-passed (sheetCheck b) (sheetCheck c) e).1 in
-    redrawn-sheets b c (record {
+pub same_ring_sheets : SameRingSheets
+same_ring_sheets b c f =
+    let e = way_passed b c f.way in
+    let right = sheet_accepted c (then_passed (sheet_check b) (sheet_check c) e).1 in
+    redrawn_sheets b c (record {
       known = known_same b c e f.known;
-      outline = ring-redrawn (verticesOf b) (verticesOf c)
-          (whole-list (limitOf (gridOf c)) (verticesOf c) (known_of c) right) (way-ring b c e f.way);
+      outline = ring_redrawn (vertices_of b) (vertices_of c)
+          (whole_list (limit_of (grid_of c)) (vertices_of c) (known_of c) right) (way_ring b c e f.way);
     })
 
-pub same-ring-feeds : SameRingFeeds
-same-ring-feeds b c f = agreeing b c (same-ring-sheets b c f)
+pub same_ring_feeds : SameRingFeeds
+same_ring_feeds b c f = agreeing b c (same_ring_sheets b c f)
 
 -- ---- field 5
-five-only : (b c : List ℕ) (f : Field) → 5 ≡ fieldNumber f → (Same b c f → ⊥) →
-    SameRing (verticesOf b) (verticesOf c) → ⊥
-five-only b c zone-field e h s = omega arith
-five-only b c charset-field e h s = omega arith
-five-only b c name-field e h s = omega arith
-five-only b c known-field e h s = omega arith
-five-only b c vertices-field e h s = h s
-five-only b c grid-field e h s = omega arith
-five-only b c second-field e h s = omega arith
+five_only : (b c : List ℕ) (f : Field) → 5 ≡ field_number f → (Same b c f → ⊥) →
+    SameRing (vertices_of b) (vertices_of c) → ⊥
+five_only b c zone_field e h s = omega arith
+five_only b c charset_field e h s = omega arith
+five_only b c name_field e h s = omega arith
+five_only b c known_field e h s = omega arith
+five_only b c vertices_field e h s = h s
+five_only b c grid_field e h s = omega arith
+five_only b c second_field_lem e h s = omega arith
 
-pub ring-field : RingField
-ring-field b c read =
+pub ring_field : RingField
+ring_field b c read =
     let e = number_passed b c read in
-    let exact = fields-exact b c read in (
+    let exact = fields_exact b c read in (
       λ way told. let named = exact.no_other told.at told.below in
-          five-only b c named.field (sym told.stands ∙ named.named) named.other (way-ring b c e way),
-      λ none way. none (exact.every_one vertices-field (λ s. ring-way b c e s way)),
+          five_only b c named.field (sym told.stands ∙ named.named) named.other (way_ring b c e way),
+      λ none way. none (exact.every_one vertices_field (λ s. ring_way b c e s way)),
     )

@@ -5,8 +5,8 @@
 -- SameRingFeeds; RingField (field 5 is told exactly if the way is 0, so that either may be asked).
 use Rattle.std.specs.Prelude.{◌≡◌, List, ℕ, ℤ}
 use Rattle.compare.specs.Ring.{SameRing}
-use Rattle.compare.specs.Differences.{known-field, vertices-field, fieldNumber}
-use Rattle.compare.specs.Comparison.{comparisonOf}
+use Rattle.compare.specs.Differences.{known_field, vertices_field, field_number}
+use Rattle.compare.specs.Comparison.{comparison_of}
 use Rattle.compare.specs.Claims.{Listed}
 use Rattle.redraw.specs.Claims.{Unmoved}
 use Rattle.redraw.specs.PairClaims.{SameNumbers, SameVerdicts}
@@ -30,13 +30,13 @@ SameRingVerdicts = OfSameRing SameVerdicts
 
 -- The field is among those that comparing the sheets b and c tells.
 abbrev pub Told : List ℕ → List ℕ → ℕ → Type 0
-Told b c number = Listed (comparisonOf b c).fields (comparisonOf b c).count number
+Told b c number = Listed (comparison_of b c).fields (comparison_of b c).count number
 
 -- Comparing finds the same ring, one way or the other, and known points of one direction. It says nothing of names,
 -- grids and second points, which may differ.
 pub record FoundSame (b c : List ℕ) : Type 0 where
-  pub way : (comparisonOf b c).way ≡ 0 → ⊥
-  pub known : Told b c (fieldNumber known-field) → ⊥
+  pub way : (comparison_of b c).way ≡ 0 → ⊥
+  pub known : Told b c (field_number known_field) → ⊥
 
 abbrev pub SameRingSheets : Type 0
 SameRingSheets = (b c : List ℕ) → FoundSame b c → SheetsAgree b c
@@ -46,6 +46,6 @@ SameRingFeeds = (b c : List ℕ) → FoundSame b c → FeedsAgree b c
 
 -- Of two sheets that are read.
 abbrev pub RingField : Type 0
-RingField = (b c : List ℕ) → (comparisonOf b c).number ≡ 0 →
-    (((comparisonOf b c).way ≡ 0 → ⊥) → Told b c (fieldNumber vertices-field) → ⊥)
-    × ((Told b c (fieldNumber vertices-field) → ⊥) → (comparisonOf b c).way ≡ 0 → ⊥)
+RingField = (b c : List ℕ) → (comparison_of b c).number ≡ 0 →
+    (((comparison_of b c).way ≡ 0 → ⊥) → Told b c (field_number vertices_field) → ⊥)
+    × ((Told b c (field_number vertices_field) → ⊥) → (comparison_of b c).way ≡ 0 → ⊥)

@@ -1,7 +1,7 @@
 // The arc from the reference point to a query. Here, in order: Arc, arc_between.
 ghost use Rattle.std.specs.Prelude.{◌≡◌};
-ghost use Rattle.sphere.specs.Point.{limitOf, Within};
-ghost use Rattle.search.specs.Arc.{arcOf};
+ghost use Rattle.sphere.specs.Point.{limit_of, Within};
+ghost use Rattle.search.specs.Arc.{arc_of};
 
 use sphere::plane::{Plane, plane_through};
 use sphere::point::{Grid, Point};
@@ -17,8 +17,8 @@ pub struct Arc {
 }
 
 pub fn arc_between(grid: Grid, from: Point, to: Point, by_boxes: bool) -> Arc
-    requires { Within (limitOf grid) from × Within (limitOf grid) to }
-    ensures { result ≡ arcOf grid from to by_boxes }
+    requires { Within (limit_of grid) from × Within (limit_of grid) to }
+    ensures { result ≡ arc_of grid from to by_boxes }
 {
     Arc {
         from: from,

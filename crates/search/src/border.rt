@@ -4,19 +4,19 @@
 // same points and are border together: each class is counted once, from its first edge on.
 ghost use Rattle.std.specs.Prelude.{◌≡◌, true, false, ◌+◌, ◌-◌, ◌/◌, ◌<◌};
 ghost use Rattle.integers.specs.Sign.{sign_of};
-ghost use Rattle.sphere.specs.Orientation.{orientationOf};
+ghost use Rattle.sphere.specs.Orientation.{orientation_of};
 ghost use Rattle.answer.specs.declared.Found.TheVariants.{At};
-ghost use Rattle.answer.specs.Search.{firstFrom, countFrom};
+ghost use Rattle.answer.specs.Search.{first_from, count_from};
 ghost use Rattle.sphere.specs.Point.{fine, Within};
 ghost use Rattle.polygon.specs.Accepted.{Gridded};
-ghost use Rattle.polygon.specs.Vertices.{vertexCount, start_of, end_of};
-ghost use Rattle.polygon.specs.Border.{isCoincident, isBorder};
-ghost use Rattle.polygon.specs.Verdict.{isHeldBy, boundaryOf};
+ghost use Rattle.polygon.specs.Vertices.{vertices_count, start_of, end_of};
+ghost use Rattle.polygon.specs.Border.{is_coincident, is_border};
+ghost use Rattle.polygon.specs.Verdict.{is_held_by, boundary_of};
 ghost use Rattle.corridors.specs.Marked.{Marked};
 ghost use Rattle.search.specs.Arc.{AcceptedArc, Searchable};
-ghost use Rattle.search.specs.Spans.{runStart};
-ghost use Rattle.search.specs.Walk.{tallyFrom, stopsAt};
-ghost use Rattle.search.specs.Border.{Foremost, ClassMarked, heldOr, NextHeld};
+ghost use Rattle.search.specs.Spans.{run_start};
+ghost use Rattle.search.specs.Walk.{tally_from, stops_at};
+ghost use Rattle.search.specs.Border.{Foremost, ClassMarked, held_or, NextHeld};
 ghost use Rattle.search.specs.Border.{NextOther, Settled};
 
 use crate::arc::{Arc, arc_between};
@@ -32,9 +32,9 @@ use sphere::point::Point;
 // Whether the walk ends at edge i: if it holds the query, and `stop` says so. By side, which has the sign of the
 // orientation of its ends and the query.
 pub(crate) fn stops_at(vertices: &[i32], arc: Arc, stop: bool, i: usize, side: i64) -> bool
-    requires accepted_arc { AcceptedArc vertices.now arc × (i < vertexCount vertices.now) }
-    requires side_value { sign_of side ≡ sign_of (orientationOf (start_of vertices.now i) (end_of vertices.now i) arc.to) }
-    ensures { result ≡ stopsAt vertices.now arc.to stop i }
+    requires accepted_arc { AcceptedArc vertices.now arc × (i < vertices_count vertices.now) }
+    requires side_value { sign_of side ≡ sign_of (orientation_of (start_of vertices.now i) (end_of vertices.now i) arc.to) }
+    ensures { result ≡ stops_at vertices.now arc.to stop i }
 {
     if on_edge_by(vertex_at(vertices, i), end_of(vertices, i), arc.to, side) {
         return stop;
@@ -45,14 +45,14 @@ pub(crate) fn stops_at(vertices: &[i32], arc: Arc, stop: bool, i: usize, side: i
 // How many edges from the run of edge i on join the same two directions. They are marked, as far as there are marks. A
 // run that is skipped has none: one that is coincident with an edge that holds the query is not strictly on one side.
 fn mark_class(vertices: &[i32], boxes: &[i32], arc: Arc, i: usize, marks: &mut [u8]) -> u32
-    requires { Searchable vertices.now boxes.now arc × (i < vertexCount vertices.now)
-        × (isHeldBy vertices.now arc.to i ≡ true) }
-    ensures { (result ≡ countFrom (isCoincident vertices.now (start_of vertices.now i)
-        (end_of vertices.now i)) (runStart (vertexCount vertices.now) (i / 32))
-        (vertexCount vertices.now - runStart (vertexCount vertices.now) (i / 32)))
-        × Marked (isCoincident vertices.now (start_of vertices.now i)
-        (end_of vertices.now i)) (runStart (vertexCount vertices.now) (i / 32))
-        (vertexCount vertices.now) marks.old marks.new }
+    requires { Searchable vertices.now boxes.now arc × (i < vertices_count vertices.now)
+        × (is_held_by vertices.now arc.to i ≡ true) }
+    ensures { (result ≡ count_from (is_coincident vertices.now (start_of vertices.now i)
+        (end_of vertices.now i)) (run_start (vertices_count vertices.now) (i / 32))
+        (vertices_count vertices.now - run_start (vertices_count vertices.now) (i / 32)))
+        × Marked (is_coincident vertices.now (start_of vertices.now i)
+        (end_of vertices.now i)) (run_start (vertices_count vertices.now) (i / 32))
+        (vertices_count vertices.now) marks.old marks.new }
 {
     let c = vertex_at(vertices, i);
     let d = end_of(vertices, i);
@@ -71,16 +71,16 @@ fn mark_class(vertices: &[i32], boxes: &[i32], arc: Arc, i: usize, marks: &mut [
 
 // Edge i is border, where it is the first of its class. All of the class are marked.
 fn is_border(vertices: &[i32], boxes: &[i32], arc: Arc, i: usize, marks: &mut [u8]) -> bool
-    requires { Searchable vertices.now boxes.now arc × (i < vertexCount vertices.now)
-        × (isHeldBy vertices.now arc.to i ≡ true) × Foremost vertices.now i }
-    ensures { (result ≡ isBorder vertices.now i)
+    requires { Searchable vertices.now boxes.now arc × (i < vertices_count vertices.now)
+        × (is_held_by vertices.now arc.to i ≡ true) × Foremost vertices.now i }
+    ensures { (result ≡ is_border vertices.now i)
         × ClassMarked vertices.now i marks.old marks.new }
 {
     mark_class(vertices, boxes, arc, i, marks) % 2 == 1
 }
 
 fn held_or(tally: Tally, end: usize) -> usize
-    ensures { result ≡ heldOr tally end }
+    ensures { result ≡ held_or tally end }
 {
     match tally {
         Tally::Held(edge) => edge,
@@ -90,7 +90,7 @@ fn held_or(tally: Tally, end: usize) -> usize
 
 // The first edge from `from` on that holds the query, or the end of all.
 fn next_held(vertices: &[i32], boxes: &[i32], arc: Arc, from: usize) -> usize
-    requires { Searchable vertices.now boxes.now arc × (from < vertexCount vertices.now) }
+    requires { Searchable vertices.now boxes.now arc × (from < vertices_count vertices.now) }
     ensures { NextHeld vertices.now arc.to from result }
 {
     held_or(
@@ -102,8 +102,8 @@ fn next_held(vertices: &[i32], boxes: &[i32], arc: Arc, from: usize) -> usize
 // Edge j joins the directions of c and d. As corridors::border::coincident, which the compiler takes into the walk over
 // an index only while it has no third caller.
 fn joins(vertices: &[i32], c: Point, d: Point, j: usize) -> bool
-    requires { Gridded fine vertices.now × (j < vertexCount vertices.now) × Within fine c × Within fine d }
-    ensures { result ≡ isCoincident vertices.now c d j }
+    requires { Gridded fine vertices.now × (j < vertices_count vertices.now) × Within fine c × Within fine d }
+    ensures { result ≡ is_coincident vertices.now c d j }
 {
     let a = vertex_at(vertices, j);
     let b = end_of(vertices, j);
@@ -114,7 +114,7 @@ fn joins(vertices: &[i32], c: Point, d: Point, j: usize) -> bool
 
 // The next one after edge `first` that is not of its class.
 fn next_other(vertices: &[i32], boxes: &[i32], arc: Arc, first: usize) -> usize
-    requires { Searchable vertices.now boxes.now arc × (first < vertexCount vertices.now) }
+    requires { Searchable vertices.now boxes.now arc × (first < vertices_count vertices.now) }
     ensures { NextOther vertices.now arc.to first result }
 {
     let n = vertices.len() / 3;
@@ -137,9 +137,9 @@ fn next_other(vertices: &[i32], boxes: &[i32], arc: Arc, first: usize) -> usize
 
 // Edge i, which holds the query, is border. One that is marked is not: its class was counted.
 fn is_new_border(vertices: &[i32], boxes: &[i32], arc: Arc, i: usize, marks: &mut [u8]) -> bool
-    requires { Searchable vertices.now boxes.now arc × (i < vertexCount vertices.now)
-        × (isHeldBy vertices.now arc.to i ≡ true) × Settled vertices.now arc.to i marks.old }
-    ensures { (result ≡ isBorder vertices.now i)
+    requires { Searchable vertices.now boxes.now arc × (i < vertices_count vertices.now)
+        × (is_held_by vertices.now arc.to i ≡ true) × Settled vertices.now arc.to i marks.old }
+    ensures { (result ≡ is_border vertices.now i)
         × (result ≡ false → Settled vertices.now arc.to (i + 1) marks.new) }
 {
     if marks[i] == 1 {
@@ -151,7 +151,7 @@ fn is_new_border(vertices: &[i32], boxes: &[i32], arc: Arc, i: usize, marks: &mu
 // The first border edge that holds the query, by marks: one for each edge whose class was counted, and is no border.
 fn first_border(vertices: &[i32], boxes: &[i32], arc: Arc) -> Found
     requires { Searchable vertices.now boxes.now arc }
-    ensures { result ≡ boundaryOf vertices.now arc.to }
+    ensures { result ≡ boundary_of vertices.now arc.to }
 {
     let n = vertices.len() / 3;
     let mut marks = [0u8; 4096];
@@ -173,8 +173,8 @@ fn first_border(vertices: &[i32], boxes: &[i32], arc: Arc) -> Found
 // again for each of them.
 fn tally_marked(vertices: &[i32], boxes: &[i32], arc: Arc) -> Tally
     requires { Searchable vertices.now boxes.now arc }
-    ensures { result ≡ tallyFrom vertices.now arc.from arc.to 0
-        (vertexCount vertices.now) }
+    ensures { result ≡ tally_from vertices.now arc.from arc.to 0
+        (vertices_count vertices.now) }
 {
     let plane = arc.plane;
     let grid = plane.grid;
@@ -188,10 +188,10 @@ fn tally_marked(vertices: &[i32], boxes: &[i32], arc: Arc) -> Tally
 // The same, where the first edge that holds the query is no border. Most often those that hold it are of one class, or
 // of two of which the other is border, and no mark is needed.
 fn tally_past(vertices: &[i32], boxes: &[i32], arc: Arc, first: usize) -> Tally
-    requires searchable { Searchable vertices.now boxes.now arc × (isBorder vertices.now first ≡ false) }
-    requires vertices_value { firstFrom (stopsAt vertices.now arc.to true) 0 (vertexCount vertices.now) ≡ At first }
-    ensures { result ≡ tallyFrom vertices.now arc.from arc.to 0
-        (vertexCount vertices.now) }
+    requires searchable { Searchable vertices.now boxes.now arc × (is_border vertices.now first ≡ false) }
+    requires vertices_value { first_from (stops_at vertices.now arc.to true) 0 (vertices_count vertices.now) ≡ At first }
+    ensures { result ≡ tally_from vertices.now arc.from arc.to 0
+        (vertices_count vertices.now) }
 {
     let other = next_other(vertices, boxes, arc, first);
     if other >= vertices.len() / 3 {
@@ -207,9 +207,9 @@ fn tally_past(vertices: &[i32], boxes: &[i32], arc: Arc, first: usize) -> Tally
 // The same, where `first` is the first edge that holds the query. Most often it is border.
 pub(crate) fn tally_held(vertices: &[i32], boxes: &[i32], arc: Arc, first: usize) -> Tally
     requires searchable { Searchable vertices.now boxes.now arc }
-    requires vertices_value { firstFrom (stopsAt vertices.now arc.to true) 0 (vertexCount vertices.now) ≡ At first }
-    ensures { result ≡ tallyFrom vertices.now arc.from arc.to 0
-        (vertexCount vertices.now) }
+    requires vertices_value { first_from (stops_at vertices.now arc.to true) 0 (vertices_count vertices.now) ≡ At first }
+    ensures { result ≡ tally_from vertices.now arc.from arc.to 0
+        (vertices_count vertices.now) }
 {
     let mut unmarked = [0u8; 1];
     if is_border(vertices, boxes, arc, first, &mut unmarked) {
@@ -221,8 +221,8 @@ pub(crate) fn tally_held(vertices: &[i32], boxes: &[i32], arc: Arc, first: usize
 // What all edges say of a query, by the arc to it.
 pub fn tally_arc(vertices: &[i32], boxes: &[i32], arc: Arc) -> Tally
     requires { Searchable vertices.now boxes.now arc }
-    ensures { result ≡ tallyFrom vertices.now arc.from arc.to 0
-        (vertexCount vertices.now) }
+    ensures { result ≡ tally_from vertices.now arc.from arc.to 0
+        (vertices_count vertices.now) }
 {
     match walk_spans(vertices, boxes, arc, 0, true) {
         Tally::Held(edge) => tally_held(vertices, boxes, arc, edge),

@@ -1,12 +1,12 @@
 // The number of edges looked at (document 02, P2). Here, in order: reach_of, looked_in, looked_before; is_counted,
 // asks_boxes.
 ghost use Rattle.std.specs.Prelude.{◌≡◌, ◌*◌, ◌-◌, ◌≤◌, ◌<◌};
-ghost use Rattle.sphere.specs.Point.{limitOf};
+ghost use Rattle.sphere.specs.Point.{limit_of};
 ghost use Rattle.sphere.specs.Plane.{Sound};
-ghost use Rattle.answer.specs.Search.{countFrom};
-ghost use Rattle.search.specs.Boxes.{runCount, runEnd};
+ghost use Rattle.answer.specs.Search.{count_from};
+ghost use Rattle.search.specs.Boxes.{run_count, run_end};
 ghost use Rattle.search.specs.Spans.{Cornered};
-ghost use Rattle.search.specs.Walk.{reachOf, Among, isLookedBy, isCounted, asksBoxes};
+ghost use Rattle.search.specs.Walk.{reach_of, Among, is_looked_by, is_counted, asks_boxes};
 
 use crate::boxes;
 use crate::walk::{Mode, Tally};
@@ -15,7 +15,7 @@ use sphere::plane::Plane;
 // How many of n edges the search comes to, by what it said.
 pub(crate) fn reach_of(tally: Tally, n: usize) -> usize
     requires { (n ≤ 4096) × Among tally n }
-    ensures { result ≡ reachOf tally n }
+    ensures { result ≡ reach_of tally n }
 {
     match tally {
         Tally::Held(edge) => edge + 1,
@@ -25,10 +25,10 @@ pub(crate) fn reach_of(tally: Tally, n: usize) -> usize
 
 // The edges of run r, of the first `reach`: all of them, or none.
 fn looked_in(boxes: &[i32], plane: Plane, r: usize, reach: usize) -> u32
-    requires sound { Sound plane × Cornered (limitOf plane.grid) boxes.now (runCount reach) }
-    requires reach_bound { (reach ≤ 4096) × (r < runCount reach) }
-    ensures { result ≡ countFrom (isLookedBy boxes.now plane.normal) (r * 32)
-        (runEnd reach r - r * 32) }
+    requires sound { Sound plane × Cornered (limit_of plane.grid) boxes.now (run_count reach) }
+    requires reach_bound { (reach ≤ 4096) × (r < run_count reach) }
+    ensures { result ≡ count_from (is_looked_by boxes.now plane.normal) (r * 32)
+        (run_end reach r - r * 32) }
 {
     if boxes::is_apart(plane, boxes, r) {
         return 0;
@@ -38,8 +38,8 @@ fn looked_in(boxes: &[i32], plane: Plane, r: usize, reach: usize) -> u32
 
 // Of the first `reach` edges, those of runs that are not skipped.
 pub(crate) fn looked_before(boxes: &[i32], plane: Plane, reach: usize) -> u32
-    requires { Sound plane × Cornered (limitOf plane.grid) boxes.now (runCount reach) × (reach ≤ 4096) }
-    ensures { result ≡ countFrom (isLookedBy boxes.now plane.normal) 0 reach }
+    requires { Sound plane × Cornered (limit_of plane.grid) boxes.now (run_count reach) × (reach ≤ 4096) }
+    ensures { result ≡ count_from (is_looked_by boxes.now plane.normal) 0 reach }
 {
     let runs = boxes::run_count(reach);
     let mut count: u32 = 0;
@@ -51,7 +51,7 @@ pub(crate) fn looked_before(boxes: &[i32], plane: Plane, reach: usize) -> u32
 
 // By the mode: whether it counts, and whether it asks the boxes.
 pub(crate) fn is_counted(mode: Mode) -> bool
-    ensures { result ≡ isCounted mode }
+    ensures { result ≡ is_counted mode }
 {
     match mode {
         Mode::Plain => false,
@@ -61,7 +61,7 @@ pub(crate) fn is_counted(mode: Mode) -> bool
 }
 
 pub fn asks_boxes(mode: Mode) -> bool
-    ensures { result ≡ asksBoxes mode }
+    ensures { result ≡ asks_boxes mode }
 {
     match mode {
         Mode::Plain => false,

@@ -3,12 +3,12 @@
 ghost use Rattle.std.specs.Prelude.{◌≡◌, ◌+◌, ◌-◌, ◌≤◌, ◌<◌};
 ghost use Rattle.integers.specs.Sign.{sign_of};
 ghost use Rattle.sphere.specs.declared.point.Grid.TheVariants.{Fine};
-ghost use Rattle.sphere.specs.Point.{fine, limitOf};
+ghost use Rattle.sphere.specs.Point.{fine, limit_of};
 ghost use Rattle.sphere.specs.Plane.{Sound};
 ghost use Rattle.polygon.specs.Accepted.{Listed, Gridded};
-ghost use Rattle.polygon.specs.Vertices.{vertexCount, next_of};
+ghost use Rattle.polygon.specs.Vertices.{vertices_count, next_of};
 ghost use Rattle.search.specs.Arc.{AcceptedArc};
-ghost use Rattle.search.specs.Scan.{side_of, Sided, Strict, isNear, Scanning, stopFrom, lastInner};
+ghost use Rattle.search.specs.Scan.{side_of, Sided, Strict, is_near, Scanning, stop_from, last_inner};
 ghost use Rattle.search.specs.Scan.{NearFrom};
 
 use crate::arc::Arc;
@@ -30,9 +30,9 @@ pub struct Near {
 // vertices of the fine grid need no more; two a turn, which the machine works out together.
 fn past_sure(vertices: &[i32], plane: Plane, above: bool, i: usize, last: usize) -> usize
     requires listed { Listed vertices.now × Gridded fine vertices.now × Sound plane × (plane.grid ≡ Fine) }
-    requires i_bound { (i ≤ vertexCount vertices.now) × (last < vertexCount vertices.now)
+    requires i_bound { (i ≤ vertices_count vertices.now) × (last < vertices_count vertices.now)
         × Strict vertices.now plane.normal above i }
-    ensures { Scanning (isNear vertices.now plane.normal) i last result
+    ensures { Scanning (is_near vertices.now plane.normal) i last result
         × Strict vertices.now plane.normal above result }
 {
     let mut edge = i;
@@ -51,9 +51,9 @@ fn past_sure(vertices: &[i32], plane: Plane, above: bool, i: usize, last: usize)
 // The same from vertex i with this side, on the fine grid.
 fn skip_fine(vertices: &[i32], plane: Plane, i: usize, side: i64, last: usize) -> usize
     requires listed { Listed vertices.now × Gridded fine vertices.now × Sound plane × (plane.grid ≡ Fine) }
-    requires i_bound { (i ≤ vertexCount vertices.now) × (last < vertexCount vertices.now)
+    requires i_bound { (i ≤ vertices_count vertices.now) × (last < vertices_count vertices.now)
         × Sided vertices.now plane.normal i side }
-    ensures { Scanning (isNear vertices.now plane.normal) i last result
+    ensures { Scanning (is_near vertices.now plane.normal) i last result
         × Sided vertices.now plane.normal result side }
 {
     if side > 0 {
@@ -67,10 +67,10 @@ fn skip_fine(vertices: &[i32], plane: Plane, i: usize, side: i64, last: usize) -
 
 // On the coarse grid no float is worked out.
 fn skip(vertices: &[i32], plane: Plane, i: usize, side: i64, last: usize) -> usize
-    requires listed { Listed vertices.now × Gridded (limitOf plane.grid) vertices.now × Sound plane }
-    requires i_bound { (i ≤ vertexCount vertices.now) × (last < vertexCount vertices.now)
+    requires listed { Listed vertices.now × Gridded (limit_of plane.grid) vertices.now × Sound plane }
+    requires i_bound { (i ≤ vertices_count vertices.now) × (last < vertices_count vertices.now)
         × Sided vertices.now plane.normal i side }
-    ensures { Scanning (isNear vertices.now plane.normal) i last result
+    ensures { Scanning (is_near vertices.now plane.normal) i last result
         × Sided vertices.now plane.normal result side }
 {
     let grid = plane.grid;
@@ -84,10 +84,10 @@ fn skip(vertices: &[i32], plane: Plane, i: usize, side: i64, last: usize) -> usi
 // inner loop: a vertex a turn. `side` is that of vertex i. Only the edge after them may go back to vertex 0, whose side
 // is `closing`.
 fn next_near(vertices: &[i32], plane: Plane, closing: i64, i: usize, side: i64, last: usize) -> Near
-    requires listed { Listed vertices.now × Gridded (limitOf plane.grid) vertices.now × Sound plane }
-    requires i_bound { (i ≤ vertexCount vertices.now) × (last < vertexCount vertices.now) }
+    requires listed { Listed vertices.now × Gridded (limit_of plane.grid) vertices.now × Sound plane }
+    requires i_bound { (i ≤ vertices_count vertices.now) × (last < vertices_count vertices.now) }
     requires sided { Sided vertices.now plane.normal i side × Sided vertices.now plane.normal 0 closing }
-    ensures { (result.edge ≡ stopFrom (isNear vertices.now plane.normal) i (last - i))
+    ensures { (result.edge ≡ stop_from (is_near vertices.now plane.normal) i (last - i))
         × Sided vertices.now plane.normal result.edge result.start
         × Sided vertices.now plane.normal (next_of (last + 1) result.edge) result.end }
 {
@@ -115,7 +115,7 @@ fn next_near(vertices: &[i32], plane: Plane, closing: i64, i: usize, side: i64, 
 // The end of those of the edges before `to` that do not go back to vertex 0.
 fn last_inner(n: usize, to: usize) -> usize
     requires { 0 < n }
-    ensures { result ≡ lastInner n to }
+    ensures { result ≡ last_inner n to }
 {
     if to < n {
         return to;
@@ -125,7 +125,7 @@ fn last_inner(n: usize, to: usize) -> usize
 
 // The side of vertex i, where that of vertex 0 is known.
 pub fn side_at(vertices: &[i32], plane: Plane, closing: i64, i: usize) -> i64
-    requires gridded { Gridded (limitOf plane.grid) vertices.now × Sound plane × (i < vertexCount vertices.now) }
+    requires gridded { Gridded (limit_of plane.grid) vertices.now × Sound plane × (i < vertices_count vertices.now) }
     requires sided { Sided vertices.now plane.normal 0 closing }
     ensures { sign_of result ≡ sign_of (side_of vertices.now plane.normal i) }
 {
@@ -139,7 +139,7 @@ pub fn side_at(vertices: &[i32], plane: Plane, closing: i64, i: usize) -> i64
 pub fn near_from(vertices: &[i32], arc: Arc, closing: i64, i: usize, side: i64, to: usize) -> Near
     requires accepted_arc { AcceptedArc vertices.now arc × Sided vertices.now arc.plane.normal 0 closing
         × Sided vertices.now arc.plane.normal i side }
-    requires i_le_to { (i ≤ to) × (to ≤ vertexCount vertices.now) }
+    requires i_le_to { (i ≤ to) × (to ≤ vertices_count vertices.now) }
     ensures { NearFrom vertices.now arc.from arc.to i to result }
 {
     let last = last_inner(vertices.len() / 3, to);

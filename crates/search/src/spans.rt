@@ -1,11 +1,11 @@
 // Runs that are skipped and runs that are not (document 02, P2). Here, in order: next_run, later, run_start, Span,
 // next_span.
 ghost use Rattle.std.specs.Prelude.{◌≡◌, ◌-◌, ◌≤◌};
-ghost use Rattle.sphere.specs.Point.{limitOf};
+ghost use Rattle.sphere.specs.Point.{limit_of};
 ghost use Rattle.sphere.specs.Plane.{Sound};
 ghost use Rattle.search.specs.Arc.{Searchable};
-ghost use Rattle.search.specs.Scan.{stopFrom};
-ghost use Rattle.search.specs.Spans.{runStart, laterOf, Cornered, isRun, Spanned};
+ghost use Rattle.search.specs.Scan.{stop_from};
+ghost use Rattle.search.specs.Spans.{run_start, later_of, Cornered, is_run, Spanned};
 
 use crate::arc::Arc;
 use crate::boxes;
@@ -13,8 +13,8 @@ use sphere::plane::Plane;
 
 // The first run from r on that is skipped, or that is not: whose box lies strictly on one side of the plane, or not.
 fn next_run(boxes: &[i32], plane: Plane, r: usize, runs: usize, skipped: bool) -> usize
-    requires { Sound plane × Cornered (limitOf plane.grid) boxes.now runs }
-    ensures { result ≡ stopFrom (isRun boxes.now plane.normal skipped) r (runs - r) }
+    requires { Sound plane × Cornered (limit_of plane.grid) boxes.now runs }
+    ensures { result ≡ stop_from (is_run boxes.now plane.normal skipped) r (runs - r) }
 {
     let mut i = r;
     while i < runs {
@@ -28,7 +28,7 @@ fn next_run(boxes: &[i32], plane: Plane, r: usize, runs: usize, skipped: bool) -
 
 // The later of two edges.
 pub(crate) fn later(a: usize, b: usize) -> usize
-    ensures { result ≡ laterOf a b }
+    ensures { result ≡ later_of a b }
 {
     if a < b {
         return b;
@@ -39,7 +39,7 @@ pub(crate) fn later(a: usize, b: usize) -> usize
 // The first edge of run r, or the end of n edges.
 fn run_start(n: usize, r: usize) -> usize
     requires { r ≤ 130 }
-    ensures { result ≡ runStart n r }
+    ensures { result ≡ run_start n r }
 {
     let start = r * 32;
     if start < n {

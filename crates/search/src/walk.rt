@@ -3,16 +3,16 @@
 // Searched, uncounted, count_edges, Mode, search_edges (all). Which edges that hold the query are border: border.rt.
 ghost use Rattle.std.specs.Prelude.{◌≡◌, cond, ◌-◌, ◌≤◌, ◌<◌};
 ghost use Rattle.integers.specs.Sign.{sign_of, is_zero};
-ghost use Rattle.sphere.specs.Point.{limitOf, Within};
+ghost use Rattle.sphere.specs.Point.{limit_of, Within};
 ghost use Rattle.answer.specs.declared.Check.TheVariants.{Passed};
-ghost use Rattle.polygon.specs.Checks.{acceptCheck};
-ghost use Rattle.polygon.specs.Vertices.{vertexCount};
+ghost use Rattle.polygon.specs.Checks.{accept_check};
+ghost use Rattle.polygon.specs.Vertices.{vertices_count};
 ghost use Rattle.polygon.specs.Verdict.{way_of};
 ghost use Rattle.search.specs.Arc.{AcceptedArc, Searchable};
 ghost use Rattle.search.specs.Boxes.{Boxed};
 ghost use Rattle.search.specs.Scan.{Sided, EndSides};
-ghost use Rattle.search.specs.Walk.{test_by, tallyBy, stopsAt, tallyOn, tallyFrom, lookedFrom};
-ghost use Rattle.search.specs.Walk.{lookedIn};
+ghost use Rattle.search.specs.Walk.{test_by, tally_by, stops_at, tally_on, tally_from, looked_from};
+ghost use Rattle.search.specs.Walk.{looked_in};
 
 use crate::arc::{Arc, arc_between};
 use crate::border::{stops_at, tally_arc, tally_held};
@@ -36,7 +36,7 @@ pub enum EdgeTest {
 // Its own two orientations are worked out only where its ends are not strictly on one side.
 fn test_edge(vertices: &[i32], arc: Arc, stop: bool, near: Near) -> EdgeTest
     requires { AcceptedArc vertices.now arc × EndSides vertices.now arc.from arc.to near }
-    ensures { result ≡ test_by (stopsAt vertices.now arc.to stop near.edge)
+    ensures { result ≡ test_by (stops_at vertices.now arc.to stop near.edge)
         (way_of vertices.now arc.from arc.to near.edge) }
 {
     if is_beside(near.start, near.end) {
@@ -72,7 +72,7 @@ pub enum Tally {
 }
 
 pub fn tally_by(found: Found, crossed: u32, sum: i32) -> Tally
-    ensures { result ≡ tallyBy found crossed sum }
+    ensures { result ≡ tally_by found crossed sum }
 {
     match found {
         Found::Nothing => Tally::Crossed(crossed, sum),
@@ -84,8 +84,8 @@ pub fn tally_by(found: Found, crossed: u32, sum: i32) -> Tally
 // crossings are counted and summed on the way. `closing` is the side of vertex 0.
 fn walk_edges(vertices: &[i32], arc: Arc, closing: i64, from: usize, to: usize, stop: bool) -> Tally
     requires accepted_arc { AcceptedArc vertices.now arc × Sided vertices.now arc.plane.normal 0 closing }
-    requires from_lt_to { (from < to) × (to ≤ vertexCount vertices.now) }
-    ensures { result ≡ tallyOn (stopsAt vertices.now arc.to stop) vertices.now arc.from
+    requires from_lt_to { (from < to) × (to ≤ vertices_count vertices.now) }
+    ensures { result ≡ tally_on (stops_at vertices.now arc.to stop) vertices.now arc.from
         arc.to from (to - from) }
 {
     let mut i = from;
@@ -117,9 +117,9 @@ pub(crate) fn walk_spans(
     from: usize,
     stop: bool,
 ) -> Tally
-    requires { Searchable vertices.now boxes.now arc × (from < vertexCount vertices.now) }
-    ensures { result ≡ tallyOn (stopsAt vertices.now arc.to stop) vertices.now arc.from
-        arc.to from (vertexCount vertices.now - from) }
+    requires { Searchable vertices.now boxes.now arc × (from < vertices_count vertices.now) }
+    ensures { result ≡ tally_on (stops_at vertices.now arc.to stop) vertices.now arc.from
+        arc.to from (vertices_count vertices.now - from) }
 {
     let closing = side_of(arc.plane, vertex_at(vertices, 0));
     let mut r = from / 32;
@@ -159,9 +159,9 @@ fn tally_edges(
     query: Point,
     by_boxes: bool,
 ) -> Tally
-    requires { (acceptCheck (limitOf grid) vertices.now known ≡ Passed) × Within (limitOf grid) query
+    requires { (accept_check (limit_of grid) vertices.now known ≡ Passed) × Within (limit_of grid) query
         × Boxed vertices.now boxes.now }
-    ensures { result ≡ tallyFrom vertices.now known query 0 (vertexCount vertices.now) }
+    ensures { result ≡ tally_from vertices.now known query 0 (vertices_count vertices.now) }
 {
     let arc = arc_between(grid, known, query, by_boxes);
     match walk_spans(vertices, boxes, arc, 0, true) {
@@ -187,10 +187,10 @@ fn uncounted(tally: Tally) -> Searched
 }
 
 fn count_edges(grid: Grid, vertices: &[i32], boxes: &[i32], known: Point, query: Point) -> Searched
-    requires { (acceptCheck (limitOf grid) vertices.now known ≡ Passed) × Within (limitOf grid) query
+    requires { (accept_check (limit_of grid) vertices.now known ≡ Passed) × Within (limit_of grid) query
         × Boxed vertices.now boxes.now }
-    ensures { (result.tally ≡ tallyFrom vertices.now known query 0 (vertexCount vertices.now))
-        × (result.looked ≡ lookedFrom vertices.now known query 0 (vertexCount vertices.now)) }
+    ensures { (result.tally ≡ tally_from vertices.now known query 0 (vertices_count vertices.now))
+        × (result.looked ≡ looked_from vertices.now known query 0 (vertices_count vertices.now)) }
 {
     let arc = arc_between(grid, known, query, true);
     let tally = tally_arc(vertices, boxes, arc);
@@ -218,11 +218,11 @@ pub fn search_edges(
     query: Point,
     mode: Mode,
 ) -> Searched
-    requires { (acceptCheck (limitOf grid) vertices.now known ≡ Passed) × Within (limitOf grid) query
+    requires { (accept_check (limit_of grid) vertices.now known ≡ Passed) × Within (limit_of grid) query
         × Boxed vertices.now boxes.now }
-    ensures { (result.tally ≡ tallyFrom vertices.now known query 0 (vertexCount vertices.now))
-        × (result.looked ≡ lookedIn mode (lookedFrom vertices.now known query 0
-        (vertexCount vertices.now))) }
+    ensures { (result.tally ≡ tally_from vertices.now known query 0 (vertices_count vertices.now))
+        × (result.looked ≡ looked_in mode (looked_from vertices.now known query 0
+        (vertices_count vertices.now))) }
 {
     if is_counted(mode) {
         return count_edges(grid, vertices, boxes, known, query);

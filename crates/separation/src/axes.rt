@@ -3,11 +3,11 @@
 // plane, clears, opposite, clears_all, clears_any, forward, beside, bound. What is tried is a hint; each plane is
 // checked exactly.
 ghost use Rattle.std.specs.Prelude.{◌≡◌, true, neg_ℤ};
-ghost use Rattle.sphere.specs.Point.{fine, Fits, Within, isFar};
+ghost use Rattle.sphere.specs.Point.{fine, Fits, Within, is_far};
 ghost use Rattle.polygon.specs.Accepted.{Gridded};
-ghost use Rattle.separation.specs.Separation.{isAhead};
+ghost use Rattle.separation.specs.Separation.{is_ahead};
 ghost use Rattle.separation.specs.Planes.{steep};
-ghost use Rattle.separation.specs.Axes.{unit, planeOf, Frame, Lower, AllClear, AnyClear};
+ghost use Rattle.separation.specs.Axes.{unit, plane_of, Frame, Lower, AllClear, AnyClear};
 
 use crate::hints::bound_hint;
 use crate::planes::is_ahead;
@@ -18,7 +18,7 @@ pub const UNIT: i64 = 1_073_741_824;
 pub const LEAST: i64 = -1_073_741_824;
 
 fn is_far(l: i64) -> bool
-    ensures { result ≡ isFar unit l }
+    ensures { result ≡ is_far unit l }
 {
     if l < LEAST {
         return true;
@@ -29,7 +29,7 @@ fn is_far(l: i64) -> bool
 // The normal 2^30 e - l d.
 fn plane(e: Point, d: Point, l: i64) -> Point
     requires { (Within 1 e × Within 1 d) × Fits unit l }
-    ensures { (result ≡ planeOf e d l) × Within steep result }
+    ensures { (result ≡ plane_of e d l) × Within steep result }
 {
     let Point {
         x: ex,
@@ -51,7 +51,7 @@ fn plane(e: Point, d: Point, l: i64) -> Point
 // All vertices are strictly ahead of it.
 fn clears(vertices: &[i32], e: Point, d: Point, l: i64) -> bool
     requires { Gridded fine vertices.now × ((Within 1 e × Within 1 d) × Fits unit l) }
-    ensures { result ≡ isAhead vertices.now (planeOf e d l) }
+    ensures { result ≡ is_ahead vertices.now (plane_of e d l) }
 {
     is_ahead(vertices, plane(e, d, l))
 }
@@ -98,7 +98,7 @@ fn clears_any(vertices: &[i32], e: Point, d: Point, f: Point, l: i64) -> bool
 
 // All vertices reach forward along e: the bound is 0 at least.
 fn forward(vertices: &[i32], e: Point, d: Point, f: Point, l: i64) -> i64
-    requires { Gridded fine vertices.now × (Frame e d f × (isAhead vertices.now e ≡ true)) }
+    requires { Gridded fine vertices.now × (Frame e d f × (is_ahead vertices.now e ≡ true)) }
     ensures { Lower vertices.now e result }
 {
     if is_far(l) {

@@ -10,52 +10,52 @@ use Rattle.sphere.specs.declared.point.Grid.{Grid}
 use Rattle.sphere.specs.declared.point.Grid.TheVariants.{Coarse, Fine}
 use Rattle.sphere.specs.declared.point.GridPoint.{GridPoint}
 use Rattle.big_endian.specs.Bytes.{AreBytes}
-use Rattle.polygon.specs.Pair.{noSecond}
+use Rattle.polygon.specs.Pair.{no_second}
 use Rattle.answer.specs.declared.Answer.{Answer}
 use Rattle.answer.specs.declared.Answer.TheVariants.{Done, Refused}
 use Rattle.answer.specs.declared.Check.{Check}
 use Rattle.answer.specs.declared.Check.TheVariants.{Passed}
 use Rattle.answer.specs.Answer.{number_of, place_of}
-use Rattle.polygon.specs.Vertices.{vertexCount}
-use Rattle.answer.specs.Chain.{◌then◌, failsIf}
-use Rattle.polygon.specs.Checks.{listCheck}
-use Rattle.polygon.specs.Grids.{isMixed, gridOfSecond}
+use Rattle.polygon.specs.Vertices.{vertices_count}
+use Rattle.answer.specs.Chain.{◌then◌, fails_if}
+use Rattle.polygon.specs.Checks.{list_check}
+use Rattle.polygon.specs.Grids.{is_mixed, grid_of_second}
 use Rattle.polygon.specs.GridClaims.{Mixed, on}
-use Rattle.fields.specs.Fields.{isCharset, isNameLength}
+use Rattle.fields.specs.Fields.{is_charset, is_name_length}
 use Rattle.sheet.specs.declared.read.Sheet.{Sheet}
-use Rattle.sheet.specs.Sheet.{nameAt, verticesOf, read_of}
-use Rattle.sheet.specs.Write.{sheetBytes, inputCheck, writeOf, writtenTo}
+use Rattle.sheet.specs.Sheet.{name_at, vertices_of, read_of}
+use Rattle.sheet.specs.Write.{sheet_bytes, input_check, write_of, written_to}
 
 -- The name's bytes, by the place and the length that reading hands back.
-abbrev pub nameIn : Sheet → List ℕ → List ℕ
-nameIn s b = take s.name_len (drop s.name_at b)
+abbrev pub name_in : Sheet → List ℕ → List ℕ
+name_in s b = take s.name_len (drop s.name_at b)
 
 -- Reading the bytes b hands back these parts, and no refusal.
 pub record ReadsAs (zone charset : ℕ) (name : List ℕ) (known : Point) (g : Grid) (vertices : List ℤ) (second : Point)
     (b : List ℕ) : Type 0 where
-  pub handed-back : read_of b ≡ record {
+  pub handed_back : read_of b ≡ record {
     answer = Done (length b);
     zone = zone;
     charset = charset;
-    name_at = nameAt;
+    name_at = name_at;
     name_len = length name;
     known = known;
-    vertex_count = vertexCount vertices;
+    vertex_count = vertices_count vertices;
     second = second;
     grid = g;
   }
-  pub same_name : nameIn (read_of b) b ≡ name
-  pub same-vertices : verticesOf b ≡ vertices
+  pub same_name : name_in (read_of b) b ≡ name
+  pub same_vertices : vertices_of b ≡ vertices
 
 -- After a successful write, reading exactly the bytes written. The place of success is how many they are.
 abbrev pub WrittenReadsBack : Type 0
 WrittenReadsBack =
     (zone charset : ℕ) (name : List ℕ) (known : GridPoint) (g : Grid) (vertices : List ℤ) (second : GridPoint)
     (buffer : List ℕ) →
-    zone < 4294967296 → number_of (writeOf charset name known g vertices second (length buffer)) ≡ 0 →
+    zone < 4294967296 → number_of (write_of charset name known g vertices second (length buffer)) ≡ 0 →
     ReadsAs zone charset name known.point g vertices second.point
-    (take (place_of (writeOf charset name known g vertices second (length buffer)))
-    (writtenTo zone charset name known g vertices second buffer))
+    (take (place_of (write_of charset name known g vertices second (length buffer)))
+    (written_to zone charset name known g vertices second buffer))
 
 -- After a successful read, writing what was read into a buffer of as many bytes.
 abbrev pub ReadWritesBack : Type 0
@@ -64,16 +64,16 @@ ReadWritesBack =
     let s = read_of b in
     let known = on s.grid s.known in
     let second = on s.grid s.second in
-    (writeOf s.charset (nameIn s b) known s.grid (verticesOf b) second (length buffer) ≡ Done (length b))
-    × (writtenTo s.zone s.charset (nameIn s b) known s.grid (verticesOf b) second buffer ≡ b)
+    (write_of s.charset (name_in s b) known s.grid (vertices_of b) second (length buffer) ≡ Done (length b))
+    × (written_to s.zone s.charset (name_in s b) known s.grid (vertices_of b) second buffer ≡ b)
 
 -- Writing on mixed grids is refused with 28, exactly if 23, 22 and 10 do not hold.
 abbrev pub WriteMixedExactly : Type 0
 WriteMixedExactly =
     (charset : ℕ) (name : List ℕ) (known : GridPoint) (g : Grid) (vertices : List ℤ) (second : GridPoint) (room : ℕ) →
-    Mixed (writeOf charset name known g vertices second room)
-    (failsIf 23 (not (isCharset charset)) then failsIf 22 (not (isNameLength (length name))) then listCheck vertices)
-    (isMixed g (known.grid ∷ gridOfSecond g second ∷ []))
+    Mixed (write_of charset name known g vertices second room)
+    (fails_if 23 (not (is_charset charset)) then fails_if 22 (not (is_name_length (length name))) then list_check vertices)
+    (is_mixed g (known.grid ∷ grid_of_second g second ∷ []))
 
 -- 25 exactly when nothing else is wrong and the buffer is shorter than the sheet's own bytes; its place is their number.
 pub record ShortBuffer (answer : Answer) (before : Check) (room size : ℕ) : Type 0 where
@@ -84,9 +84,9 @@ abbrev pub ShortBufferExactly : Type 0
 ShortBufferExactly =
     (zone charset : ℕ) (name : List ℕ) (known : GridPoint) (g : Grid) (vertices : List ℤ) (second : GridPoint)
     (room : ℕ) →
-    ShortBuffer (writeOf charset name known g vertices second room)
-    (inputCheck charset name known g vertices second) room
-    (length (sheetBytes zone charset name known.point g vertices second.point))
+    ShortBuffer (write_of charset name known g vertices second room)
+    (input_check charset name known g vertices second) room
+    (length (sheet_bytes zone charset name known.point g vertices second.point))
 
 -- A list that is too short or too long is refused by its length, 22.
 abbrev pub ReadNeverTen : Type 0
@@ -108,8 +108,8 @@ coordinates [] = []
 coordinates (n ∷ ns) = 0 ∷ 0 ∷ 0 ∷ n ∷ coordinates ns
 
 -- With the tag of its vertices.
-unfoldable pub octantBytes : ℕ → List ℕ
-octantBytes tag =
+unfoldable pub octant_bytes : ℕ → List ℕ
+octant_bytes tag =
     (1 ∷ 0 ∷ 4 ∷ 0 ∷ 0 ∷ 0 ∷ 7 ∷ [])
     ++ ((2 ∷ 0 ∷ 1 ∷ 1 ∷ [])
     ++ ((3 ∷ 0 ∷ 1 ∷ 65 ∷ [])
@@ -117,23 +117,23 @@ octantBytes tag =
     ++ (tag ∷ 0 ∷ 36 ∷ coordinates (1 ∷ 0 ∷ 0 ∷ 0 ∷ 1 ∷ 0 ∷ 0 ∷ 0 ∷ 1 ∷ [])))))
 
 abbrev pub OctantSheet : Type 0
-OctantSheet = sheetBytes 7 1 (65 ∷ []) centre Coarse octant noSecond ≡ octantBytes 5
+OctantSheet = sheet_bytes 7 1 (65 ∷ []) centre Coarse octant no_second ≡ octant_bytes 5
 
 -- The same with the second point (1,1,2), which passes: the sheet reads.
 abbrev second : Point
 second = record { x = pos 1; y = pos 1; z = pos 2 }
 
-unfoldable pub octantPairBytes : List ℕ
-octantPairBytes = octantBytes 5 ++ (6 ∷ 0 ∷ 12 ∷ coordinates (1 ∷ 1 ∷ 2 ∷ []))
+unfoldable pub octant_pair_bytes : List ℕ
+octant_pair_bytes = octant_bytes 5 ++ (6 ∷ 0 ∷ 12 ∷ coordinates (1 ∷ 1 ∷ 2 ∷ []))
 
 abbrev pub OctantPairSheet : Type 0
 OctantPairSheet =
-    (sheetBytes 7 1 (65 ∷ []) centre Coarse octant second ≡ octantPairBytes)
-    × ((read_of octantPairBytes).answer ≡ Done 84)
+    (sheet_bytes 7 1 (65 ∷ []) centre Coarse octant second ≡ octant_pair_bytes)
+    × ((read_of octant_pair_bytes).answer ≡ Done 84)
 
 -- The same octant on the fine grid: tag 7 in place of 5.
 abbrev pub OctantFineSheet : Type 0
 OctantFineSheet =
-    (sheetBytes 7 1 (65 ∷ []) centre Fine octant noSecond ≡ octantBytes 7)
-    × ((read_of (octantBytes 7)).answer ≡ Done 69)
-    × ((read_of (octantBytes 7)).grid ≡ Fine)
+    (sheet_bytes 7 1 (65 ∷ []) centre Fine octant no_second ≡ octant_bytes 7)
+    × ((read_of (octant_bytes 7)).answer ≡ Done 69)
+    × ((read_of (octant_bytes 7)).grid ≡ Fine)

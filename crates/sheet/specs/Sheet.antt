@@ -1,70 +1,70 @@
 -- Document 01, 'The zone sheet', second layer: what the fields mean, and what reading hands back. Defined, in order:
--- zoneOf, charsetOf, nameAt, nameLength, name_of, known_of, vertexCountOf, verticesOf, second_of; plainCheck (20 to 24,
--- then 11 to 16), sheetSecondCheck (19), sheetCheck (all of them); refusedSheet, readAfter, read_of; loadedAfter,
--- loadedOf. On bytes that are no sheet the parts mean nothing and only sheetCheck counts.
+-- zone_of, charset_of, name_at, name_length, name_of, known_of, vertex_count_of, vertices_of, second_of; plain_check (20 to 24,
+-- then 11 to 16), sheet_second_check (19), sheet_check (all of them); refused_sheet, read_after, read_of; loaded_after,
+-- loaded_of. On bytes that are no sheet the parts mean nothing and only sheet_check counts.
 use Rattle.std.specs.Prelude.{cond, List, ◌++◌, ℕ, ◌+◌, ◌*◌, ◌/◌, ℤ, pos, length, take, drop}
 use Rattle.sphere.specs.declared.point.Point.{Point}
 use Rattle.sphere.specs.declared.point.Grid.TheVariants.{Coarse}
-use Rattle.sphere.specs.Point.{limitOf}
-use Rattle.big_endian.specs.Bytes.{byteAt, short_at, word_at, pointAt, intsAt}
+use Rattle.sphere.specs.Point.{limit_of}
+use Rattle.big_endian.specs.Bytes.{byte_at, short_at, word_at, point_at, ints_at}
 use Rattle.answer.specs.declared.Answer.TheVariants.{Done, Refused}
 use Rattle.answer.specs.declared.Check.{Check}
 use Rattle.answer.specs.declared.Check.TheVariants.{Passed, Failed}
 use Rattle.answer.specs.Chain.{◌then◌}
-use Rattle.polygon.specs.Checks.{acceptCheck}
-use Rattle.polygon.specs.Pair.{secondCheck, noSecond}
+use Rattle.polygon.specs.Checks.{accept_check}
+use Rattle.polygon.specs.Pair.{second_check, no_second}
 use Rattle.sheet.specs.declared.read.Sheet.{Sheet}
-use Rattle.fields.specs.Fields.{charsetStart, nameStart, knownStart, verticesStart, gridOf, secondStart, hasSecond}
-use Rattle.fields.specs.Fields.{fieldsCheck}
+use Rattle.fields.specs.Fields.{charset_start, name_start, known_start, vertices_start, grid_of, second_start, has_second_point}
+use Rattle.fields.specs.Fields.{fields_check}
 
 -- ---- the parts
 
-abbrev pub zoneOf : List ℕ → ℕ
-zoneOf b = word_at b 3
+abbrev pub zone_of : List ℕ → ℕ
+zone_of b = word_at b 3
 
-abbrev pub charsetOf : List ℕ → ℕ
-charsetOf b = byteAt b (charsetStart + 3)
+abbrev pub charset_of : List ℕ → ℕ
+charset_of b = byte_at b (charset_start + 3)
 
 -- Where the name stands, always, and its bytes as received.
-abbrev pub nameAt : ℕ
-nameAt = nameStart + 3
+abbrev pub name_at : ℕ
+name_at = name_start + 3
 
-abbrev pub nameLength : List ℕ → ℕ
-nameLength b = short_at b (nameStart + 1)
+abbrev pub name_length : List ℕ → ℕ
+name_length b = short_at b (name_start + 1)
 
 abbrev pub name_of : List ℕ → List ℕ
-name_of b = take (nameLength b) (drop nameAt b)
+name_of b = take (name_length b) (drop name_at b)
 
 abbrev pub known_of : List ℕ → Point
-known_of b = pointAt b (knownStart b + 3)
+known_of b = point_at b (known_start b + 3)
 
-abbrev pub vertexCountOf : List ℕ → ℕ
-vertexCountOf b = short_at b (verticesStart b + 1) / 12
+abbrev pub vertex_count_of : List ℕ → ℕ
+vertex_count_of b = short_at b (vertices_start b + 1) / 12
 
-abbrev pub verticesOf : List ℕ → List ℤ
-verticesOf b = intsAt b (verticesStart b + 3) (vertexCountOf b * 3)
+abbrev pub vertices_of : List ℕ → List ℤ
+vertices_of b = ints_at b (vertices_start b + 3) (vertex_count_of b * 3)
 
 -- The point of tag 6, or none: all zero.
 unfoldable pub second_of : List ℕ → Point
-second_of b = cond (hasSecond b) (pointAt b (secondStart b + 3)) noSecond
+second_of b = cond (has_second_point b) (point_at b (second_start b + 3)) no_second
 
 -- ---- reading
 
 -- A sheet without regard to its second point.
-unfoldable pub plainCheck : List ℕ → Check
-plainCheck b = fieldsCheck b then acceptCheck (limitOf (gridOf b)) (verticesOf b) (known_of b)
+unfoldable pub plain_check : List ℕ → Check
+plain_check b = fields_check b then accept_check (limit_of (grid_of b)) (vertices_of b) (known_of b)
 
 -- The second point, where the field is there: one of all zero fails too.
-unfoldable pub sheetSecondCheck : List ℕ → Check
-sheetSecondCheck b =
-    cond (hasSecond b) (secondCheck (limitOf (gridOf b)) (verticesOf b) (known_of b) (second_of b)) Passed
+unfoldable pub sheet_second_check : List ℕ → Check
+sheet_second_check b =
+    cond (has_second_point b) (second_check (limit_of (grid_of b)) (vertices_of b) (known_of b) (second_of b)) Passed
 
-unfoldable pub sheetCheck : List ℕ → Check
-sheetCheck b = plainCheck b then sheetSecondCheck b
+unfoldable pub sheet_check : List ℕ → Check
+sheet_check b = plain_check b then sheet_second_check b
 
 -- A refusal, and zeros beside it; the coarse grid is the number 0.
-abbrev pub refusedSheet : ℕ → ℕ → Sheet
-refusedSheet number place = record {
+abbrev pub refused_sheet : ℕ → ℕ → Sheet
+refused_sheet number place = record {
   answer = Refused number place;
   zone = 0;
   charset = 0;
@@ -72,33 +72,33 @@ refusedSheet number place = record {
   name_len = 0;
   known = record { x = pos 0; y = pos 0; z = pos 0 };
   vertex_count = 0;
-  second = noSecond;
+  second = no_second;
   grid = Coarse;
 }
 
-abbrev pub readAfter : Check → List ℕ → Sheet
-readAfter (Failed number place) b = refusedSheet number place
-readAfter Passed b = record {
+abbrev pub read_after : Check → List ℕ → Sheet
+read_after (Failed number place) b = refused_sheet number place
+read_after Passed b = record {
   answer = Done (length b);
-  zone = zoneOf b;
-  charset = charsetOf b;
-  name_at = nameAt;
-  name_len = nameLength b;
+  zone = zone_of b;
+  charset = charset_of b;
+  name_at = name_at;
+  name_len = name_length b;
   known = known_of b;
-  vertex_count = vertexCountOf b;
+  vertex_count = vertex_count_of b;
   second = second_of b;
-  grid = gridOf b;
+  grid = grid_of b;
 }
 
 -- What reading hands back of any bytes.
 unfoldable pub read_of : List ℕ → Sheet
-read_of b = readAfter (sheetCheck b) b
+read_of b = read_after (sheet_check b) b
 
 -- The vertices in front of a list of numbers, if a check passed.
-abbrev pub loadedAfter : Check → List ℕ → List ℤ → List ℤ
-loadedAfter (Failed number place) b out = out
-loadedAfter Passed b out = verticesOf b ++ drop (vertexCountOf b * 3) out
+abbrev pub loaded_after : Check → List ℕ → List ℤ → List ℤ
+loaded_after (Failed number place) b out = out
+loaded_after Passed b out = vertices_of b ++ drop (vertex_count_of b * 3) out
 
 -- What loading leaves in the numbers that a user lends: the vertices of an accepted sheet, and else all as it was.
-unfoldable pub loadedOf : List ℕ → List ℤ → List ℤ
-loadedOf b out = loadedAfter (sheetCheck b) b out
+unfoldable pub loaded_of : List ℕ → List ℤ → List ℤ
+loaded_of b out = loaded_after (sheet_check b) b out

@@ -4,12 +4,12 @@
 // follows from what the fields' check handed on; no length is read again.
 ghost use Rattle.std.specs.Prelude.{◌≡◌, ◌++◌, ◌+◌, ◌*◌, ◌≤◌, length, take, drop};
 ghost use Rattle.answer.specs.declared.Check.TheVariants.{Passed};
-ghost use Rattle.fields.specs.Fields.{verticesStart, fiveFields, sheetFields};
-ghost use Rattle.fields.specs.Parts.{partsAfter};
-ghost use Rattle.judging.specs.Accept.{boxedAfter};
-ghost use Rattle.sheet.specs.Sheet.{nameLength, known_of, vertexCountOf, verticesOf, second_of, plainCheck};
-ghost use Rattle.sheet.specs.Sheet.{sheetCheck};
-ghost use Rattle.sheet.specs.Open.{refusedOpen, openedAfter, room_for, BoxesFor, decodedOf};
+ghost use Rattle.fields.specs.Fields.{vertices_start, five_fields, sheet_fields};
+ghost use Rattle.fields.specs.Parts.{parts_after};
+ghost use Rattle.judging.specs.Accept.{boxed_after};
+ghost use Rattle.sheet.specs.Sheet.{name_length, known_of, vertex_count_of, vertices_of, second_of, plain_check};
+ghost use Rattle.sheet.specs.Sheet.{sheet_check};
+ghost use Rattle.sheet.specs.Open.{refused_open, opened_after, room_for, BoxesFor, decoded_of};
 
 use answer::Check;
 use big_endian::read;
@@ -33,14 +33,14 @@ pub struct Opened {
 
 // After a name of so many bytes.
 fn known_point(b: &[u8], name: usize) -> Point
-    requires { (fiveFields b.now ≡ Passed) × (name ≡ nameLength b.now) }
+    requires { (five_fields b.now ≡ Passed) × (name ≡ name_length b.now) }
     ensures { result ≡ known_of b.now }
 {
     read::point_at(b, fields::NAME_START + 6 + name)
 }
 
 fn second_point(b: &[u8], parts: Parts) -> Point
-    requires { (sheetFields b.now ≡ Passed) × (parts ≡ partsAfter Passed b.now) }
+    requires { (sheet_fields b.now ≡ Passed) × (parts ≡ parts_after Passed b.now) }
     ensures { result ≡ second_of b.now }
 {
     if parts.has_second {
@@ -51,8 +51,8 @@ fn second_point(b: &[u8], parts: Parts) -> Point
 
 // A sheet whose fields are sound.
 fn points(b: &[u8], parts: Parts) -> Opened
-    requires { (sheetFields b.now ≡ Passed) × (parts ≡ partsAfter Passed b.now) }
-    ensures { result ≡ openedAfter Passed b.now }
+    requires { (sheet_fields b.now ≡ Passed) × (parts ≡ parts_after Passed b.now) }
+    ensures { result ≡ opened_after Passed b.now }
 {
     let grid = parts.grid;
     Opened {
@@ -68,10 +68,10 @@ fn points(b: &[u8], parts: Parts) -> Opened
 
 // The bytes of the vertices: count, after a name of so many bytes.
 pub fn vertices_in(b: &[u8], name: usize, count: usize) -> &[u8]
-    requires b_value { (fiveFields b.now ≡ Passed) × (name ≡ nameLength b.now) }
-    requires count_value { count ≡ vertexCountOf b.now }
+    requires b_value { (five_fields b.now ≡ Passed) × (name ≡ name_length b.now) }
+    requires count_value { count ≡ vertex_count_of b.now }
     ensures { result.now
-        ≡ take (vertexCountOf b.now * 12) (drop (verticesStart b.now + 3) b.now) }
+        ≡ take (vertex_count_of b.now * 12) (drop (vertices_start b.now + 3) b.now) }
 {
     let at = fields::NAME_START + 21 + name;
     &b[at..at + count * 12]
@@ -79,15 +79,15 @@ pub fn vertices_in(b: &[u8], name: usize, count: usize) -> &[u8]
 
 // The vertices go to the front of `out`: n, after a name of so many bytes.
 pub(crate) fn decode_vertices(b: &[u8], name: usize, n: usize, out: &mut [i32])
-    requires b_value { (fiveFields b.now ≡ Passed) × (name ≡ nameLength b.now) }
-    requires n_value { (n ≡ vertexCountOf b.now) × (n * 3 ≤ length out.old) }
-    ensures { out.new ≡ verticesOf b.now ++ drop (n * 3) out.old }
+    requires b_value { (five_fields b.now ≡ Passed) × (name ≡ name_length b.now) }
+    requires n_value { (n ≡ vertex_count_of b.now) × (n * 3 ≤ length out.old) }
+    ensures { out.new ≡ vertices_of b.now ++ drop (n * 3) out.old }
 {
     read::decode(b, fields::NAME_START + 21 + name, n * 3, out)
 }
 
 fn refused(number: u32, place: usize) -> Opened
-    ensures { result ≡ refusedOpen number place }
+    ensures { result ≡ refused_open number place }
 {
     Opened {
         check: Check::Failed(number, place),
@@ -104,9 +104,9 @@ fn refused(number: u32, place: usize) -> Opened
 // then refused; the boxes are those of one that is not.
 pub fn plain_into(b: &[u8], scratch: &mut [i32], boxes: &mut [i32]) -> Opened
     requires { (room_for b.now ≤ length scratch.old) × BoxesFor b.now boxes.old }
-    ensures value { result ≡ openedAfter (plainCheck b.now) b.now }
-    ensures scratch_after { (scratch.new ≡ decodedOf b.now scratch.old)
-        × (boxes.new ≡ boxedAfter (plainCheck b.now) (verticesOf b.now)
+    ensures value { result ≡ opened_after (plain_check b.now) b.now }
+    ensures scratch_after { (scratch.new ≡ decoded_of b.now scratch.old)
+        × (boxes.new ≡ boxed_after (plain_check b.now) (vertices_of b.now)
         boxes.old) }
 {
     let parts = fields::fields_check(b);
@@ -128,9 +128,9 @@ pub fn plain_into(b: &[u8], scratch: &mut [i32], boxes: &mut [i32]) -> Opened
 // All checks of a sheet: the second point beside the known one too, if there is a second.
 pub fn open_into(b: &[u8], scratch: &mut [i32], boxes: &mut [i32]) -> Opened
     requires { (room_for b.now ≤ length scratch.old) × BoxesFor b.now boxes.old }
-    ensures value { result ≡ openedAfter (sheetCheck b.now) b.now }
-    ensures scratch_after { (scratch.new ≡ decodedOf b.now scratch.old)
-        × (boxes.new ≡ boxedAfter (plainCheck b.now) (verticesOf b.now)
+    ensures value { result ≡ opened_after (sheet_check b.now) b.now }
+    ensures scratch_after { (scratch.new ≡ decoded_of b.now scratch.old)
+        × (boxes.new ≡ boxed_after (plain_check b.now) (vertices_of b.now)
         boxes.old) }
 {
     let sheet = plain_into(b, scratch, boxes);

@@ -1,9 +1,9 @@
 // Reading a sheet. Here, in order: Sheet, refused, accepted, opened, sheet_check, read, load. Any bytes.
 ghost use Rattle.std.specs.Prelude.{◌≡◌};
 ghost use Rattle.answer.specs.declared.Check.TheVariants.{Passed};
-ghost use Rattle.fields.specs.Fields.{sheetFields};
-ghost use Rattle.sheet.specs.Sheet.{sheetCheck, refusedSheet, readAfter, read_of, loadedOf};
-ghost use Rattle.sheet.specs.Open.{openedAfter};
+ghost use Rattle.fields.specs.Fields.{sheet_fields};
+ghost use Rattle.sheet.specs.Sheet.{sheet_check, refused_sheet, read_after, read_of, loaded_of};
+ghost use Rattle.sheet.specs.Open.{opened_after};
 
 use crate::open::{Opened, decode_vertices, open_into};
 use answer::{Answer, Check};
@@ -26,7 +26,7 @@ pub struct Sheet {
 }
 
 fn refused(number: u32, place: usize) -> Sheet
-    ensures { result ≡ refusedSheet number place }
+    ensures { result ≡ refused_sheet number place }
 {
     Sheet {
         answer: Answer::Refused(number, place),
@@ -43,8 +43,8 @@ fn refused(number: u32, place: usize) -> Sheet
 
 // A sheet that passed every check.
 fn accepted(b: &[u8], sheet: Opened) -> Sheet
-    requires { (sheetFields b.now ≡ Passed) × (sheet ≡ openedAfter Passed b.now) }
-    ensures { result ≡ readAfter Passed b.now }
+    requires { (sheet_fields b.now ≡ Passed) × (sheet ≡ opened_after Passed b.now) }
+    ensures { result ≡ read_after Passed b.now }
 {
     let grid = sheet.grid;
     let known = sheet.known;
@@ -64,7 +64,7 @@ fn accepted(b: &[u8], sheet: Opened) -> Sheet
 
 // A sheet, opened in scratch space for any.
 pub fn opened(b: &[u8]) -> Opened
-    ensures { result ≡ openedAfter (sheetCheck b.now) b.now }
+    ensures { result ≡ opened_after (sheet_check b.now) b.now }
 {
     let mut scratch = [0i32; 12288];
     let mut boxes = [0i32; 768];
@@ -73,7 +73,7 @@ pub fn opened(b: &[u8]) -> Opened
 
 // All checks of a sheet: 20 to 24, then 11 to 16, then 19.
 pub fn sheet_check(b: &[u8]) -> Check
-    ensures { result ≡ sheetCheck b.now }
+    ensures { result ≡ sheet_check b.now }
 {
     opened(b).check
 }
@@ -93,7 +93,7 @@ pub fn read(b: &[u8]) -> Sheet
 // The same, and the vertices go to the front of `out`. A refusal leaves it as it was.
 pub fn load(b: &[u8], out: &mut [i32; 12288]) -> Sheet
     ensures { (result ≡ read_of b.now)
-        × (out.new ≡ loadedOf b.now out.old) }
+        × (out.new ≡ loaded_of b.now out.old) }
 {
     let sheet = opened(b);
     let check = sheet.check;

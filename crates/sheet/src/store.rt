@@ -3,9 +3,9 @@
 ghost use Rattle.std.specs.Prelude.{◌≡◌, [], ◌∷◌, ◌+◌, ◌*◌, ◌≤◌, ◌<◌, length};
 ghost use Rattle.std.proofs.lemmas.List.Edits.{sets};
 ghost use Rattle.sphere.specs.Point.{Within};
-ghost use Rattle.big_endian.specs.Bytes.{shortBytes, word_bytes, intsBytes, pointBytes};
+ghost use Rattle.big_endian.specs.Bytes.{short_bytes, word_bytes, ints_bytes, point_bytes};
 ghost use Rattle.fields.specs.Fields.{tag_of};
-ghost use Rattle.sheet.specs.Write.{fieldBytes, secondBytes, secondSize, sheetBytes, Storable};
+ghost use Rattle.sheet.specs.Write.{field_bytes, second_bytes, second_size, sheet_bytes, Storable};
 
 use big_endian::store;
 use fields::tag;
@@ -14,7 +14,7 @@ use sphere::point::{Grid, Point, is_null};
 // A tag and a length.
 fn put_head(b: &mut [u8], at: usize, tag: u8, n: u32)
     requires { at + 3 ≤ length b.old }
-    ensures { b.new ≡ sets b.old at (tag ∷ shortBytes n) }
+    ensures { b.new ≡ sets b.old at (tag ∷ short_bytes n) }
 {
     b[at] = tag;
     store::put_short(b, at + 1, n)
@@ -22,7 +22,7 @@ fn put_head(b: &mut [u8], at: usize, tag: u8, n: u32)
 
 fn put_zone(b: &mut [u8], zone: u32)
     requires { 7 ≤ length b.old }
-    ensures { b.new ≡ sets b.old 0 (fieldBytes 1 (word_bytes zone)) }
+    ensures { b.new ≡ sets b.old 0 (field_bytes 1 (word_bytes zone)) }
 {
     put_head(b, 0, 1, 4);
     store::put_word(b, 3, zone)
@@ -30,7 +30,7 @@ fn put_zone(b: &mut [u8], zone: u32)
 
 fn put_charset(b: &mut [u8], charset: u32)
     requires { (11 ≤ length b.old) × (charset < 256) }
-    ensures { b.new ≡ sets b.old 7 (fieldBytes 2 (charset ∷ [])) }
+    ensures { b.new ≡ sets b.old 7 (field_bytes 2 (charset ∷ [])) }
 {
     put_head(b, 7, 2, 1);
     b[10] = charset as u8;
@@ -38,7 +38,7 @@ fn put_charset(b: &mut [u8], charset: u32)
 
 fn put_name(b: &mut [u8], name: &[u8])
     requires { (14 + length name.now ≤ length b.old) × (length name.now ≤ 120) }
-    ensures { b.new ≡ sets b.old 11 (fieldBytes 3 name.now) }
+    ensures { b.new ≡ sets b.old 11 (field_bytes 3 name.now) }
 {
     put_head(b, 11, 3, name.len() as u32);
     store::put_bytes(b, 14, name)
@@ -47,7 +47,7 @@ fn put_name(b: &mut [u8], name: &[u8])
 // The field of the known point, and of the second one.
 fn put_place(b: &mut [u8], at: usize, tag: u8, p: Point)
     requires { (at + 15 ≤ length b.old) × Within 2147483647 p }
-    ensures { b.new ≡ sets b.old at (fieldBytes tag (pointBytes p)) }
+    ensures { b.new ≡ sets b.old at (field_bytes tag (point_bytes p)) }
 {
     put_head(b, at, tag, 12);
     store::put_point(b, at + 3, p)
@@ -56,7 +56,7 @@ fn put_place(b: &mut [u8], at: usize, tag: u8, p: Point)
 fn put_vertices(b: &mut [u8], at: usize, grid: Grid, vertices: &[i32])
     requires { (at + 3 + length vertices.now * 4 ≤ length b.old) × (length vertices.now ≤ 12288) }
     ensures { b.new
-        ≡ sets b.old at (fieldBytes (tag_of grid) (intsBytes vertices.now)) }
+        ≡ sets b.old at (field_bytes (tag_of grid) (ints_bytes vertices.now)) }
 {
     put_head(b, at, tag(grid), vertices.len() as u32 * 4);
     store::put_ints(b, at + 3, vertices)
@@ -64,8 +64,8 @@ fn put_vertices(b: &mut [u8], at: usize, grid: Grid, vertices: &[i32])
 
 // No byte changes where there is no second point.
 fn put_second(b: &mut [u8], at: usize, second: Point)
-    requires { (at + secondSize second ≤ length b.old) × Within 2147483647 second }
-    ensures { b.new ≡ sets b.old at (secondBytes second) }
+    requires { (at + second_size second ≤ length b.old) × Within 2147483647 second }
+    ensures { b.new ≡ sets b.old at (second_bytes second) }
 {
     if !is_null(second) {
         put_place(b, at, 6, second);
@@ -85,7 +85,7 @@ pub fn put_sheet(
 )
     requires { Storable charset name.now known vertices.now second (length b.old) }
     ensures { b.new
-        ≡ sets b.old 0 (sheetBytes zone charset name.now known grid vertices.now
+        ≡ sets b.old 0 (sheet_bytes zone charset name.now known grid vertices.now
         second) }
 {
     put_zone(b, zone);

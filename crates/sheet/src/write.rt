@@ -2,7 +2,7 @@
 // Here, in order: input_check (23, 22, 10, 28, 11 to 16, 19), second_size, bytes_needed, write_answer (25 too; nothing
 // is written), write. A second point of all zero is none, and has no grid.
 ghost use Rattle.std.specs.Prelude.{◌≡◌, ◌≤◌, length};
-ghost use Rattle.sheet.specs.Write.{secondSize, bytesNeeded, inputCheck, writeOf, writtenTo};
+ghost use Rattle.sheet.specs.Write.{second_size, bytes_needed, input_check, write_of, written_to};
 
 use crate::store;
 use answer::{Answer, Check};
@@ -18,7 +18,7 @@ fn input_check(
     vertices: &[i32],
     second: GridPoint,
 ) -> Check
-    ensures { result ≡ inputCheck charset name.now known grid vertices.now second }
+    ensures { result ≡ input_check charset name.now known grid vertices.now second }
 {
     let g = known.grid;
     if !fields::is_charset(charset) {
@@ -36,7 +36,7 @@ fn input_check(
 
 // The bytes of the second point's field.
 fn second_size(second: Point) -> usize
-    ensures { (result ≡ secondSize second) × (result ≤ 15) }
+    ensures { (result ≡ second_size second) × (result ≤ 15) }
 {
     if is_null(second) {
         return 0;
@@ -47,7 +47,7 @@ fn second_size(second: Point) -> usize
 // The bytes that a sheet takes.
 fn bytes_needed(name: &[u8], vertices: &[i32], second: Point) -> usize
     requires { (length name.now ≤ 120) × (length vertices.now ≤ 12288) }
-    ensures { result ≡ bytesNeeded name.now vertices.now second }
+    ensures { result ≡ bytes_needed name.now vertices.now second }
 {
     32 + name.len() + vertices.len() * 4 + second_size(second)
 }
@@ -62,7 +62,7 @@ pub fn write_answer(
     second: GridPoint,
     room: usize,
 ) -> Answer
-    ensures { result ≡ writeOf charset name.now known grid vertices.now second room }
+    ensures { result ≡ write_of charset name.now known grid vertices.now second room }
 {
     if let Check::Failed(number, place) = input_check(
         charset, name, known, grid, vertices, second,
@@ -88,10 +88,10 @@ pub fn write(
     buffer: &mut [u8],
 ) -> Answer
     ensures value { result
-        ≡ writeOf charset name.now known grid vertices.now second
+        ≡ write_of charset name.now known grid vertices.now second
         (length buffer.old) }
     ensures buffer_after { buffer.new
-        ≡ writtenTo zone charset name.now known grid vertices.now second
+        ≡ written_to zone charset name.now known grid vertices.now second
         buffer.old }
 {
     if let Check::Failed(number, place) = input_check(

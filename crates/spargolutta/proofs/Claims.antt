@@ -1,5 +1,5 @@
--- The claims of specs/Claims, proved. In order: write-grid-exactly, written-reads-from-c; vertices-read-back,
--- read-writes-from-c.
+-- The claims of specs/Claims, proved. In order: write_grid_exactly, written_reads_from_c; vertices_read_back,
+-- read_writes_from_c.
 use mathlib.Core.Path.{◌≡◌, refl, sym, ap}
 use mathlib.Core.Bool.{Bool, true, false, not, cond}
 use mathlib.Core.List.{List, [], ◌∷◌}
@@ -12,37 +12,37 @@ use lib.Seq.{take_at}
 use Rattle.sphere.specs.declared.point.Grid.{Grid}
 use Rattle.sphere.specs.declared.point.Grid.TheVariants.{Coarse, Fine}
 use Rattle.sphere.specs.declared.point.Point.{Point}
-use Rattle.sphere.specs.Point.{isGridNumber, gridNumbered, is_null}
+use Rattle.sphere.specs.Point.{is_grid_number, grid_numbered, is_null}
 use Rattle.answer.specs.declared.Answer.TheVariants.{Done}
 use Rattle.answer.specs.declared.Check.{Check}
 use Rattle.answer.specs.declared.Check.TheVariants.{Passed, Failed}
-use Rattle.answer.specs.Answer.{number_of, answerAfter}
-use Rattle.answer.proofs.Laws.Numbers.{Numbered, ◌both◌, here-numbered}
-use Rattle.polygon.specs.Grids.{isMixed, gridOfSecond}
+use Rattle.answer.specs.Answer.{number_of, answer_after}
+use Rattle.answer.proofs.Laws.Numbers.{Numbered, ◌both◌, here_numbered}
+use Rattle.polygon.specs.Grids.{is_mixed, grid_of_second}
 use Rattle.polygon.specs.GridClaims.{on}
-use Rattle.fields.specs.Fields.{verticesStart}
-use Rattle.fields.proofs.Laws.Fields.{passed-spans}
-use Rattle.sheet.specs.Sheet.{vertexCountOf, verticesOf, sheetCheck, read_of}
-use Rattle.sheet.proofs.Claims.{written-reads-back, read-writes-back}
-use Rattle.sheet.proofs.Mixed.{write-mixed-exactly}
-use Rattle.sheet.proofs.Laws.Numbers.{Above, above-sheet}
-use Rattle.sheet.proofs.Laws.Reads.{sheet-five, read-accepted}
-use Rattle.book.specs.Which.{gridNumberOf}
-use Rattle.compare.proofs.Laws.Ring.{ring-part}
+use Rattle.fields.specs.Fields.{vertices_start}
+use Rattle.fields.proofs.Laws.Fields.{passed_spans}
+use Rattle.sheet.specs.Sheet.{vertex_count_of, vertices_of, sheet_check, read_of}
+use Rattle.sheet.proofs.Claims.{written_reads_back, read_writes_back}
+use Rattle.sheet.proofs.Mixed.{write_mixed_exactly}
+use Rattle.sheet.proofs.Laws.Numbers.{Above, above_sheet}
+use Rattle.sheet.proofs.Laws.Reads.{sheet_five, read_accepted}
+use Rattle.book.specs.Which.{grid_number_of}
+use Rattle.compare.proofs.Laws.Ring.{ring_part}
 use Rattle.spargolutta.specs.Claims.{WriteGridExactly, WrittenReadsFromC, ReadWritesFromC, VerticesReadBack}
-use Rattle.spargolutta.specs.Outline.{outlineOf}
-use Rattle.spargolutta.specs.Writing.{listed_of, pointGrid}
-use Rattle.spargolutta.specs.Reading.{row_of, fillCheck, filledTo}
-use Rattle.spargolutta.proofs.Read.{fill-passed, row-length}
+use Rattle.spargolutta.specs.Outline.{outline_of}
+use Rattle.spargolutta.specs.Writing.{listed_of, point_grid}
+use Rattle.spargolutta.specs.Reading.{row_of, fill_check, filled_to}
+use Rattle.spargolutta.proofs.Read.{fill_passed, row_length}
 
 -- The points are on the vertices' grid exactly where the number names one.
 mixed : (g : ℕ) (second : Point) →
-    isMixed (gridNumbered g) (pointGrid g ∷ gridOfSecond (gridNumbered g) (on (pointGrid g) second) ∷ [])
-    ≡ not (isGridNumber g)
+    is_mixed (grid_numbered g) (point_grid g ∷ grid_of_second (grid_numbered g) (on (point_grid g) second) ∷ [])
+    ≡ not (is_grid_number g)
 mixed g second = go g (is_null second)
   where
     go : (g : ℕ) (none : Bool) →
-        isMixed (gridNumbered g) (pointGrid g ∷ cond none (gridNumbered g) (pointGrid g) ∷ []) ≡ not (isGridNumber g)
+        is_mixed (grid_numbered g) (point_grid g ∷ cond none (grid_numbered g) (point_grid g) ∷ []) ≡ not (is_grid_number g)
     go zero true = refl
     go zero false = refl
     go (suc zero) true = refl
@@ -50,73 +50,73 @@ mixed g second = go g (is_null second)
     go (suc (suc n)) none =
         rw (ne_eqb (suc (suc n)) 0 (λ e. omega arith), ne_eqb (suc (suc n)) 1 (λ e. omega arith))
 
-pub write-grid-exactly : WriteGridExactly
-write-grid-exactly charset name known second vertices g room =
+pub write_grid_exactly : WriteGridExactly
+write_grid_exactly charset name known second vertices g room =
     rw (sym (mixed g second))
-    (write-mixed-exactly charset name (on (pointGrid g) known) (gridNumbered g) (listed_of vertices)
-    (on (pointGrid g) second) room)
+    (write_mixed_exactly charset name (on (point_grid g) known) (grid_numbered g) (listed_of vertices)
+    (on (point_grid g) second) room)
 
-pub written-reads-from-c : WrittenReadsFromC
-written-reads-from-c zone charset name known second vertices g buffer small e =
-    written-reads-back zone charset name (on (pointGrid g) known) (gridNumbered g) (listed_of vertices)
-    (on (pointGrid g) second) buffer small e
+pub written_reads_from_c : WrittenReadsFromC
+written_reads_from_c zone charset name known second vertices g buffer small e =
+    written_reads_back zone charset name (on (point_grid g) known) (grid_numbered g) (listed_of vertices)
+    (on (point_grid g) second) buffer small e
 
 -- ---- the vertices
-zero-passed : (c : Check) → Numbered (Above 10) c → number_of (answerAfter c (Done 0)) ≡ 0 → c ≡ Passed
-zero-passed Passed h e = refl
-zero-passed (Failed n p) h e = absurd (omega (arith, h.each n p refl))
+zero_passed : (c : Check) → Numbered (Above 10) c → number_of (answer_after c (Done 0)) ≡ 0 → c ≡ Passed
+zero_passed Passed h e = refl
+zero_passed (Failed n p) h e = absurd (omega (arith, h.each n p refl))
 
 module _ (b buffer : List ℕ) where
-  above : Numbered (Above 10) (fillCheck b (length buffer))
-  unfolding fillCheck
+  above : Numbered (Above 10) (fill_check b (length buffer))
+  unfolding fill_check
   above =
-      let n = vertexCountOf b * 12 in
-      above-sheet b both here-numbered 27 n (ltb (length buffer) n) (lit< tt)
+      let n = vertex_count_of b * 12 in
+      above_sheet b both here_numbered 27 n (ltb (length buffer) n) (lit< tt)
 
-  done : number_of (answerAfter (fillCheck b (length buffer)) (Done 0)) ≡ 0 → fillCheck b (length buffer) ≡ Passed
-  done e = zero-passed (fillCheck b (length buffer)) above e
+  done : number_of (answer_after (fill_check b (length buffer)) (Done 0)) ≡ 0 → fill_check b (length buffer) ≡ Passed
+  done e = zero_passed (fill_check b (length buffer)) above e
 
-  row-vertices : sheetCheck b ≡ Passed → outlineOf (row_of b) ≡ verticesOf b
+  row_vertices : sheet_check b ≡ Passed → outline_of (row_of b) ≡ vertices_of b
   unfolding row_of
-  row-vertices ok =
-      let spans = passed-spans b (sheet-five b ok) in
-      ring-part b (verticesStart b + 3) (vertexCountOf b) (omega (arith, spans.second_at, spans.ends))
+  row_vertices ok =
+      let spans = passed_spans b (sheet_five b ok) in
+      ring_part b (vertices_start b + 3) (vertex_count_of b) (omega (arith, spans.second_at, spans.ends))
 
   -- the bytes that are handed out
-  handed : fillCheck b (length buffer) ≡ Passed →
-      take ((read_of b).vertex_count * 12) (filledTo b buffer) ≡ row_of b
-  unfolding filledTo
+  handed : fill_check b (length buffer) ≡ Passed →
+      take ((read_of b).vertex_count * 12) (filled_to b buffer) ≡ row_of b
+  unfolding filled_to
   handed passed =
-      let ok = (fill-passed b (length buffer) passed).0 in
-      let count = ap (λ s. s.vertex_count * 12) (read-accepted b ok) in
-      rw (passed, count, take_at (row_of b) (drop (length (row_of b)) buffer) _ (row-length b ok))
+      let ok = (fill_passed b (length buffer) passed).0 in
+      let count = ap (λ s. s.vertex_count * 12) (read_accepted b ok) in
+      rw (passed, count, take_at (row_of b) (drop (length (row_of b)) buffer) _ (row_length b ok))
 
-pub vertices-read-back : VerticesReadBack
-vertices-read-back b buffer e =
+pub vertices_read_back : VerticesReadBack
+vertices_read_back b buffer e =
     let passed = done b buffer e in
-    rw (handed b buffer passed) (row-vertices b buffer (fill-passed b (length buffer) passed).0)
+    rw (handed b buffer passed) (row_vertices b buffer (fill_passed b (length buffer) passed).0)
 
 -- ---- what is read writes back
-grid-numbered : (g : Grid) → gridNumbered (gridNumberOf g) ≡ g
-grid-numbered Coarse = refl
-grid-numbered Fine = refl
+grid_numbered_lem : (g : Grid) → grid_numbered (grid_number_of g) ≡ g
+grid_numbered_lem Coarse = refl
+grid_numbered_lem Fine = refl
 
-point-grid : (g : Grid) → pointGrid (gridNumberOf g) ≡ g
-point-grid Coarse = refl
-point-grid Fine = refl
+point_grid_lem : (g : Grid) → point_grid (grid_number_of g) ≡ g
+point_grid_lem Coarse = refl
+point_grid_lem Fine = refl
 
 -- Whole twelves, so that they are the list.
-row_listed : (b : List ℕ) → sheetCheck b ≡ Passed → listed_of (row_of b) ≡ verticesOf b
+row_listed : (b : List ℕ) → sheet_check b ≡ Passed → listed_of (row_of b) ≡ vertices_of b
 unfolding listed_of
 row_listed b ok =
-    let n = row-length b ok in
+    let n = row_length b ok in
     let twelves : length (row_of b) % 12 ≡ 0 = omega arith in
-    rw (eq-eqb (length (row_of b) % 12) 0 twelves) (row-vertices b [] ok)
+    rw (eq-eqb (length (row_of b) % 12) 0 twelves) (row_vertices b [] ok)
 
-pub read-writes-from-c : ReadWritesFromC
-read-writes-from-c b row buffer are e n =
+pub read_writes_from_c : ReadWritesFromC
+read_writes_from_c b row buffer are e n =
     let passed = done b row e in
-    let ok = (fill-passed b (length row) passed).0 in
+    let ok = (fill_passed b (length row) passed).0 in
     let g = (read_of b).grid in
-    let accepted = ap (λ s. number_of s.answer) (read-accepted b ok) in
-    rw (handed b row passed, row_listed b ok, grid-numbered g, point-grid g) (read-writes-back b buffer are accepted n)
+    let accepted = ap (λ s. number_of s.answer) (read_accepted b ok) in
+    rw (handed b row passed, row_listed b ok, grid_numbered_lem g, point_grid_lem g) (read_writes_back b buffer are accepted n)

@@ -1,5 +1,5 @@
--- Vertices that C hands over. Proved, in order: decoded-front, decoded-room (what decoding leaves in the scratch space);
--- list-none, list-long (lists that line 10 refuses); alike-refused (such lists are written alike), alike-listed (what is
+-- Vertices that C hands over. Proved, in order: decoded_front, decoded_room (what decoding leaves in the scratch space);
+-- list_none, list_long (lists that line 10 refuses); alike_refused (such lists are written alike), alike_listed (what is
 -- decoded of the bytes is written as they are).
 use mathlib.Core.Path.{◌≡◌, refl, ap, ◌∙◌}
 use mathlib.Core.Bool.{Bool, true, false, not, ◌&&◌, cond, and-false}
@@ -13,34 +13,34 @@ use lib.ListN.{length, take, length-append}
 use lib.Seq.{take_at}
 use Rattle.sphere.specs.declared.point.Grid.{Grid}
 use Rattle.sphere.specs.declared.point.GridPoint.{GridPoint}
-use Rattle.big_endian.specs.Bytes.{intsAt}
-use Rattle.big_endian.proofs.Laws.Rows.{intsAt-length}
+use Rattle.big_endian.specs.Bytes.{ints_at}
+use Rattle.big_endian.proofs.Laws.Rows.{ints_at-length}
 use Rattle.answer.specs.declared.Check.{Check}
 use Rattle.answer.specs.declared.Check.TheVariants.{Passed, Failed}
-use Rattle.answer.specs.Chain.{◌then◌, failsIf}
-use Rattle.polygon.specs.Checks.{listCheck}
-use Rattle.polygon.specs.Grids.{gridCheck}
-use Rattle.fields.specs.Fields.{isCharset, isNameLength}
-use Rattle.sheet.specs.Write.{inputCheck, writeCheck, writeOf, writtenTo}
-use Rattle.spargolutta.specs.Outline.{outlineOf}
-use Rattle.spargolutta.specs.Writing.{listed_of, listSize}
+use Rattle.answer.specs.Chain.{◌then◌, fails_if}
+use Rattle.polygon.specs.Checks.{list_check}
+use Rattle.polygon.specs.Grids.{grid_check}
+use Rattle.fields.specs.Fields.{is_charset, is_name_length}
+use Rattle.sheet.specs.Write.{input_check, write_check, write_of, written_to}
+use Rattle.spargolutta.specs.Outline.{outline_of}
+use Rattle.spargolutta.specs.Writing.{listed_of, list_size}
 
 -- n numbers decoded, and what stood behind them.
-module _ (b : List ℕ) (n : ℕ) (rest : List ℤ) {left : List ℤ} (e : left ≡ intsAt b 0 n ++ rest) where
-  pub decoded-front : take n left ≡ intsAt b 0 n
-  decoded-front = ap (take n) e ∙ take_at (intsAt b 0 n) rest _ (intsAt-length b 0 n)
+module _ (b : List ℕ) (n : ℕ) (rest : List ℤ) {left : List ℤ} (e : left ≡ ints_at b 0 n ++ rest) where
+  pub decoded_front : take n left ≡ ints_at b 0 n
+  decoded_front = ap (take n) e ∙ take_at (ints_at b 0 n) rest _ (ints_at-length b 0 n)
 
-  pub decoded-room : n ≤ length left
-  decoded-room = omega (arith, ap length e ∙ length-append (intsAt b 0 n) rest, intsAt-length b 0 n)
+  pub decoded_room : n ≤ length left
+  decoded_room = omega (arith, ap length e ∙ length-append (ints_at b 0 n) rest, ints_at-length b 0 n)
 
-pub list-none : listCheck [] ≡ Failed 10 0
-unfolding listCheck
-list-none = refl
+pub list_none : list_check [] ≡ Failed 10 0
+unfolding list_check
+list_none = refl
 
 -- Over 4,096 vertices.
-pub list-long : (vs : List ℤ) → 4096 < length vs / 3 → listCheck vs ≡ Failed 10 0
-unfolding listCheck
-list-long vs h =
+pub list_long : (vs : List ℤ) → 4096 < length vs / 3 → list_check vs ≡ Failed 10 0
+unfolding list_check
+list_long vs h =
     rw (lt-leb (length vs / 3) 4096 h, and-false (leb 3 (length vs / 3)), and-false (eqb (length vs % 3) 0))
 
 record Refusal (c : Check) : Type 0 where
@@ -55,34 +55,34 @@ refusal Passed Passed = record { number = 10; place = 0; is = refl }
 
 module _ (charset : ℕ) (name : List ℕ) (known : GridPoint) (g : Grid) (second : GridPoint) where
   pub record Alike (vs ws : List ℤ) : Type 0 where
-    pub answers : (room : ℕ) → writeOf charset name known g vs second room ≡ writeOf charset name known g ws second room
+    pub answers : (room : ℕ) → write_of charset name known g vs second room ≡ write_of charset name known g ws second room
     pub buffers : (zone : ℕ) (buffer : List ℕ) →
-        writtenTo zone charset name known g vs second buffer ≡ writtenTo zone charset name known g ws second buffer
+        written_to zone charset name known g vs second buffer ≡ written_to zone charset name known g ws second buffer
 
-  ten : (vs : List ℤ) → listCheck vs ≡ Failed 10 0 →
-      inputCheck charset name known g vs second
-      ≡ failsIf 23 (not (isCharset charset)) then failsIf 22 (not (isNameLength (length name))) then Failed 10 0
-  unfolding inputCheck gridCheck
+  ten : (vs : List ℤ) → list_check vs ≡ Failed 10 0 →
+      input_check charset name known g vs second
+      ≡ fails_if 23 (not (is_charset charset)) then fails_if 22 (not (is_name_length (length name))) then Failed 10 0
+  unfolding input_check grid_check
   ten vs e = rw e
 
-  pub alike-refused : (vs ws : List ℤ) → listCheck vs ≡ Failed 10 0 → listCheck ws ≡ Failed 10 0 → Alike vs ws
-  unfolding writeOf writtenTo writeCheck
-  alike-refused vs ws e f =
-      let r = refusal (failsIf 23 (not (isCharset charset))) (failsIf 22 (not (isNameLength (length name)))) in
+  pub alike_refused : (vs ws : List ℤ) → list_check vs ≡ Failed 10 0 → list_check ws ≡ Failed 10 0 → Alike vs ws
+  unfolding write_of written_to write_check
+  alike_refused vs ws e f =
+      let r = refusal (fails_if 23 (not (is_charset charset))) (fails_if 22 (not (is_name_length (length name)))) in
       let v = ten vs e ∙ r.is in
       let w = ten ws f ∙ r.is in
       record { answers = λ room. rw (v, w); buffers = λ zone buffer. rw (v, w) }
 
-  pub alike-listed : (b : List ℕ) → Alike (intsAt b 0 (listSize (length b))) (listed_of b)
-  unfolding listed_of intsAt
-  alike-listed b = go (eqb (length b % 12) 0) refl (leb (length b) 49152) refl
+  pub alike_listed : (b : List ℕ) → Alike (ints_at b 0 (list_size (length b))) (listed_of b)
+  unfolding listed_of ints_at
+  alike_listed b = go (eqb (length b % 12) 0) refl (leb (length b) 49152) refl
     where
       go : (t : Bool) → eqb (length b % 12) 0 ≡ t → (u : Bool) → leb (length b) 49152 ≡ u →
-          Alike (intsAt b 0 (cond (t && u) (length b / 12 * 3) 0)) (cond t (outlineOf b) [])
+          Alike (ints_at b 0 (cond (t && u) (length b / 12 * 3) 0)) (cond t (outline_of b) [])
       go false e u f = record { answers = λ room. refl; buffers = λ zone buffer. refl }
       go true e true f = record { answers = λ room. refl; buffers = λ zone buffer. refl }
       go true e false f =
           let whole = eqb-true (length b % 12) 0 e in
           let more = leb-false (length b) 49152 f in
-          let size = intsAt-length b 0 (length b / 12 * 3) in
-          alike-refused [] (outlineOf b) list-none (list-long (outlineOf b) (omega (arith, size)))
+          let size = ints_at-length b 0 (length b / 12 * 3) in
+          alike_refused [] (outline_of b) list_none (list_long (outline_of b) (omega (arith, size)))

@@ -1,6 +1,6 @@
--- The tables of what numbers mean. Proved, in order: tabled-at, kind_at, start-at, size-at (an entry is right for its
--- number, and the last for all that follow); text-part, text-within, letters-length (a text is a part of the
--- letters); front_cut, front-whole (as much of a text as fits).
+-- The tables of what numbers mean. Proved, in order: tabled_at, kind_at, start_at, size_at (an entry is right for its
+-- number, and the last for all that follow); text_part, text_within, letters_length (a text is a part of the
+-- letters); front_cut, front_whole (as much of a text as fits).
 use mathlib.Core.Path.{◌≡◌, refl, sym, ap, ◌∙◌}
 use mathlib.Core.Bool.{Bool, true, false, ◌&&◌, cond}
 use mathlib.Core.List.{List, [], ◌∷◌, ◌++◌}
@@ -11,20 +11,20 @@ use lib.Dec.{eqb, ltb}
 use lib.ListN.{length, take, drop, get_or, length-append, drop_of_length-le}
 use lib.Seq.{sets, sets-eq, length-take-le, take_all, take-length, take-append_seam, drop-append-add}
 use Rattle.answer.proofs.Laws.Chain.{both_true}
-use Rattle.spargolutta.specs.Meanings.{Row, unknown, rows, findIn, row_of, kind_of, text_of, joined, start_in}
-use Rattle.spargolutta.specs.Meanings.{frontOf, letters, index_of, tabled, kindTable, startTable, sizeTable}
+use Rattle.spargolutta.specs.Meanings.{Row, unknown, rows, find_in, row_of, kind_of, text_of, joined, start_in}
+use Rattle.spargolutta.specs.Meanings.{front_of, letters, index_of, tabled, kind_table, start_table, size_table}
 
-tabled-from : (f : ℕ → ℕ) (i k j : ℕ) → j < k → get_or (tabled f i k) j 0 ≡ f (i + j)
-tabled-from f i zero j h = absurd (omega arith)
-tabled-from f i (suc k) zero h = let z : i ≡ i + 0 = omega arith in ap f z
-tabled-from f i (suc k) (suc j) h =
-    let z : suc i + j ≡ i + suc j = omega arith in tabled-from f (suc i) k j (omega arith) ∙ ap f z
+tabled_from : (f : ℕ → ℕ) (i k j : ℕ) → j < k → get_or (tabled f i k) j 0 ≡ f (i + j)
+tabled_from f i zero j h = absurd (omega arith)
+tabled_from f i (suc k) zero h = let z : i ≡ i + 0 = omega arith in ap f z
+tabled_from f i (suc k) (suc j) h =
+    let z : suc i + j ≡ i + suc j = omega arith in tabled_from f (suc i) k j (omega arith) ∙ ap f z
 
 -- A table of 38 entries, for numbers that are alike from 37 on.
-pub tabled-at : (f : ℕ → ℕ) → ((n : ℕ) → 37 ≤ n → f 37 ≡ f n) → (n i : ℕ) → i ≡ index_of n → i < 38 →
+pub tabled_at : (f : ℕ → ℕ) → ((n : ℕ) → 37 ≤ n → f 37 ≡ f n) → (n i : ℕ) → i ≡ index_of n → i < 38 →
     get_or (tabled f 0 38) i 0 ≡ f n
-tabled-at f alike n i e h =
-    let z : 0 + i ≡ i = omega arith in tabled-from f 0 38 i h ∙ ap f (z ∙ e) ∙ go (ltb n 37) refl
+tabled_at f alike n i e h =
+    let z : 0 + i ≡ i = omega arith in tabled_from f 0 38 i h ∙ ap f (z ∙ e) ∙ go (ltb n 37) refl
   where
     go : (t : Bool) → ltb n 37 ≡ t → f (cond t n 37) ≡ f n
     go true q = refl
@@ -46,13 +46,13 @@ module _ (n : ℕ) (h : 37 ≤ n) where
   unfolding below
   rest r rs e = (both_true (ltb r.number 37) (below rs) e).1
 
-  kind-none : (rs : List Row) → below rs ≡ true → (findIn rs n).kind ≡ 0
-  kind-none [] e = refl
-  kind-none (r ∷ rs) e = rw (other r rs e) (kind-none rs (rest r rs e))
+  kind_none : (rs : List Row) → below rs ≡ true → (find_in rs n).kind ≡ 0
+  kind_none [] e = refl
+  kind_none (r ∷ rs) e = rw (other r rs e) (kind_none rs (rest r rs e))
 
-  text-none : (rs : List Row) → below rs ≡ true → (findIn rs n).text ≡ unknown
-  text-none [] e = refl
-  text-none (r ∷ rs) e = rw (other r rs e) (text-none rs (rest r rs e))
+  text_none : (rs : List Row) → below rs ≡ true → (find_in rs n).text ≡ unknown
+  text_none [] e = refl
+  text_none (r ∷ rs) e = rw (other r rs e) (text_none rs (rest r rs e))
 
 module _ (n : ℕ) (h : 37 ≤ n) where
   start_none : (rs : List Row) → below rs ≡ true → start_in rs 37 ≡ start_in rs n
@@ -61,65 +61,65 @@ module _ (n : ℕ) (h : 37 ≤ n) where
       rw (other 37 (omega arith) r rs e, other n h r rs e) (ap (λ (k : ℕ). length r.text + k)
       (start_none rs (rest n h r rs e)))
 
-all-below : below rows ≡ true
+all_below : below rows ≡ true
 unfolding below rows
-all-below = refl
+all_below = refl
 
 module _ (n i : ℕ) (e : i ≡ index_of n) (h : i < 38) where
-  pub kind_at : get_or kindTable i 0 ≡ kind_of n
-  unfolding kindTable row_of
+  pub kind_at : get_or kind_table i 0 ≡ kind_of n
+  unfolding kind_table row_of
   kind_at =
-      tabled-at kind_of (λ m l. kind-none 37 (omega arith) rows all-below ∙ sym (kind-none m l rows all-below)) n i e h
+      tabled_at kind_of (λ m l. kind_none 37 (omega arith) rows all_below ∙ sym (kind_none m l rows all_below)) n i e h
 
-  pub start-at : get_or startTable i 0 ≡ start_in rows n
-  unfolding startTable
-  start-at = tabled-at (start_in rows) (λ m l. start_none m l rows all-below) n i e h
+  pub start_at : get_or start_table i 0 ≡ start_in rows n
+  unfolding start_table
+  start_at = tabled_at (start_in rows) (λ m l. start_none m l rows all_below) n i e h
 
-  pub size-at : get_or sizeTable i 0 ≡ length (text_of n)
-  unfolding sizeTable row_of
-  size-at =
-      tabled-at (λ m. length (text_of m))
-      (λ m l. ap length (text-none 37 (omega arith) rows all-below ∙ sym (text-none m l rows all-below))) n i e h
+  pub size_at : get_or size_table i 0 ≡ length (text_of n)
+  unfolding size_table row_of
+  size_at =
+      tabled_at (λ m. length (text_of m))
+      (λ m l. ap length (text_none 37 (omega arith) rows all_below ∙ sym (text_none m l rows all_below))) n i e h
 
 -- ---- a text is a part of the letters
-part : (rs : List Row) (n : ℕ) → take (length (findIn rs n).text) (drop (start_in rs n) (joined rs)) ≡ (findIn rs n).text
+part : (rs : List Row) (n : ℕ) → take (length (find_in rs n).text) (drop (start_in rs n) (joined rs)) ≡ (find_in rs n).text
 part [] n = take-length unknown
 part (r ∷ rs) n = go (eqb n r.number) (part rs n)
   where
-    go : (t : Bool) → take (length (findIn rs n).text) (drop (start_in rs n) (joined rs)) ≡ (findIn rs n).text →
-        take (length (cond t r (findIn rs n)).text)
+    go : (t : Bool) → take (length (find_in rs n).text) (drop (start_in rs n) (joined rs)) ≡ (find_in rs n).text →
+        take (length (cond t r (find_in rs n)).text)
         (drop (cond t 0 (length r.text + start_in rs n)) (r.text ++ joined rs))
-        ≡ (cond t r (findIn rs n)).text
+        ≡ (cond t r (find_in rs n)).text
     go true rest = take-append_seam r.text (joined rs)
     go false rest =
-        ap (take (length (findIn rs n).text)) (drop-append-add r.text (joined rs) (start_in rs n)) ∙ rest
+        ap (take (length (find_in rs n).text)) (drop-append-add r.text (joined rs) (start_in rs n)) ∙ rest
 
-within : (rs : List Row) (n : ℕ) → start_in rs n + length (findIn rs n).text ≤ length (joined rs)
+within : (rs : List Row) (n : ℕ) → start_in rs n + length (find_in rs n).text ≤ length (joined rs)
 within [] n = omega arith
 within (r ∷ rs) n = go (eqb n r.number) (within rs n)
   where
-    go : (t : Bool) → start_in rs n + length (findIn rs n).text ≤ length (joined rs) →
-        cond t 0 (length r.text + start_in rs n) + length (cond t r (findIn rs n)).text
+    go : (t : Bool) → start_in rs n + length (find_in rs n).text ≤ length (joined rs) →
+        cond t 0 (length r.text + start_in rs n) + length (cond t r (find_in rs n)).text
         ≤ length (r.text ++ joined rs)
     go true rest = omega (arith, length-append r.text (joined rs))
     go false rest = omega (arith, length-append r.text (joined rs))
 
 module _ (n : ℕ) where
-  pub text-part : take (length (text_of n)) (drop (start_in rows n) letters) ≡ text_of n
+  pub text_part : take (length (text_of n)) (drop (start_in rows n) letters) ≡ text_of n
   unfolding letters row_of
-  text-part = part rows n
+  text_part = part rows n
 
-  pub text-within : start_in rows n + length (text_of n) ≤ length letters
+  pub text_within : start_in rows n + length (text_of n) ≤ length letters
   unfolding letters row_of
-  text-within = within rows n
+  text_within = within rows n
 
-pub letters-length : length letters ≡ 783
+pub letters_length : length letters ≡ 783
 unfolding letters rows
-letters-length = refl
+letters_length = refl
 
 -- ---- as much of a text as fits
 module _ (buffer text : List ℕ) where
-  pub front_cut : length buffer < length text → sets buffer 0 (take (length buffer) text) ≡ frontOf text buffer
+  pub front_cut : length buffer < length text → sets buffer 0 (take (length buffer) text) ≡ front_of text buffer
   front_cut h =
       let cut = take (length buffer) text in
       let size = length-take-le (length buffer) text (omega arith) in
@@ -127,8 +127,8 @@ module _ (buffer text : List ℕ) where
       sets-eq cut buffer 0 (omega (arith, size))
       ∙ ap (λ (l : List ℕ). cut ++ l) (none ∙ sym (drop_of_length-le buffer {i = length text} (omega arith)))
 
-  pub front-whole : length text ≤ length buffer → sets buffer 0 text ≡ frontOf text buffer
-  front-whole h =
+  pub front_whole : length text ≤ length buffer → sets buffer 0 text ≡ front_of text buffer
+  front_whole h =
       let z : 0 + length text ≡ length text = omega arith in
       sets-eq text buffer 0 (omega arith)
       ∙ (λ i. sym (take_all (length buffer) text h) i ++ drop (z i) buffer)

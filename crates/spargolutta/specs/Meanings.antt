@@ -1,6 +1,6 @@
 -- What the numbers mean to a user: the texts of include/spargolutta.h and what a place is, in the order of its table.
--- Defined, in order: Row, unknown, rows, findIn, row_of; kind_of, text_of, frontOf, textTo (the buffer after the call);
--- joined, start_in, letters, index_of, tabled, kindTable, startTable, sizeTable (for the code alone).
+-- Defined, in order: Row, unknown, rows, find_in, row_of; kind_of, text_of, front_of, text_to (the buffer after the call);
+-- joined, start_in, letters, index_of, tabled, kind_table, start_table, size_table (for the code alone).
 use Rattle.std.specs.Prelude.{cond, List, [], ◌∷◌, ◌++◌, ℕ, zero, suc, ◌+◌, eqb, ltb, length, take, drop}
 
 -- A text is in ASCII. The kinds of a place: 0 none, 1 a side, 2 a vertex, 3 a byte, 4 the bytes needed, 5 a position,
@@ -132,12 +132,12 @@ rows =
     115 ∷ 104 ∷ 101 ∷ 101 ∷ 116 ∷ 115 ∷ []) ∷
     []
 
-abbrev pub findIn : List Row → ℕ → Row
-findIn [] n = row n 0 unknown
-findIn (r ∷ rs) n = cond (eqb n r.number) r (findIn rs n)
+abbrev pub find_in : List Row → ℕ → Row
+find_in [] n = row n 0 unknown
+find_in (r ∷ rs) n = cond (eqb n r.number) r (find_in rs n)
 
 unfoldable pub row_of : ℕ → Row
-row_of n = findIn rows n
+row_of n = find_in rows n
 
 abbrev pub kind_of : ℕ → ℕ
 kind_of n = (row_of n).kind
@@ -146,11 +146,11 @@ abbrev pub text_of : ℕ → List ℕ
 text_of n = (row_of n).text
 
 -- As much of a text as fits, in front, and the rest as it was.
-abbrev pub frontOf : List ℕ → List ℕ → List ℕ
-frontOf text buffer = take (length buffer) text ++ drop (length text) buffer
+abbrev pub front_of : List ℕ → List ℕ → List ℕ
+front_of text buffer = take (length buffer) text ++ drop (length text) buffer
 
-unfoldable pub textTo : ℕ → List ℕ → List ℕ
-textTo n buffer = frontOf (text_of n) buffer
+unfoldable pub text_to : ℕ → List ℕ → List ℕ
+text_to n buffer = front_of (text_of n) buffer
 
 -- ---- for the code alone: readers need none of it
 
@@ -175,11 +175,11 @@ abbrev pub tabled : (ℕ → ℕ) → ℕ → ℕ → List ℕ
 tabled f i zero = []
 tabled f i (suc k) = f i ∷ tabled f (suc i) k
 
-unfoldable pub kindTable : List ℕ
-kindTable = tabled kind_of 0 38
+unfoldable pub kind_table : List ℕ
+kind_table = tabled kind_of 0 38
 
-unfoldable pub startTable : List ℕ
-startTable = tabled (start_in rows) 0 38
+unfoldable pub start_table : List ℕ
+start_table = tabled (start_in rows) 0 38
 
-unfoldable pub sizeTable : List ℕ
-sizeTable = tabled (λ n. length (text_of n)) 0 38
+unfoldable pub size_table : List ℕ
+size_table = tabled (λ n. length (text_of n)) 0 38

@@ -2,7 +2,7 @@
 ghost use Rattle.std.specs.Prelude.{◌≡◌, length};
 ghost use Rattle.answer.specs.Answer.{number_of, place_of};
 ghost use Rattle.extent.specs.Extent.{FarNumber};
-ghost use Rattle.extent.specs.Boxes.{boxOf, boxCountOf, BoxAfter};
+ghost use Rattle.extent.specs.Boxes.{box_of, box_count_of, BoxAfter};
 
 use extent::boxes::{count, place, put_box};
 use extent::measure::far;
@@ -18,7 +18,7 @@ pub extern "C" fn spg_far_number(sheet: &[u8]) -> u32
 // The box is written if and only if the number is 0.
 #[unsafe(no_mangle)]
 pub extern "C" fn spg_box_number(sheet: &[u8], out: &mut [u8]) -> u32
-    ensures value { result ≡ number_of (boxOf sheet.now (length out.old)) }
+    ensures value { result ≡ number_of (box_of sheet.now (length out.old)) }
     ensures box_after { BoxAfter sheet.now out.old out.new }
 {
     put_box(sheet, out)
@@ -26,7 +26,7 @@ pub extern "C" fn spg_box_number(sheet: &[u8], out: &mut [u8]) -> u32
 
 #[unsafe(no_mangle)]
 pub extern "C" fn spg_box_place(sheet: &[u8], room: usize) -> usize
-    ensures { result ≡ place_of (boxOf sheet.now room) }
+    ensures { result ≡ place_of (box_of sheet.now room) }
 {
     place(sheet, room)
 }
@@ -34,7 +34,7 @@ pub extern "C" fn spg_box_place(sheet: &[u8], room: usize) -> usize
 // 1 where the zone has a box of its own.
 #[unsafe(no_mangle)]
 pub extern "C" fn spg_box_count(sheet: &[u8], room: usize) -> u32
-    ensures { result ≡ boxCountOf sheet.now room }
+    ensures { result ≡ box_count_of sheet.now room }
 {
     count(sheet, room)
 }

@@ -2,8 +2,8 @@
 // functions, of which spg_vertices_number alone writes.
 ghost use Rattle.std.specs.Prelude.{◌≡◌, ◌*◌, ◌≤◌, ltb, length};
 ghost use Rattle.answer.specs.Answer.{number_of, place_of};
-ghost use Rattle.answer.specs.Chain.{◌then◌, failsHere};
-ghost use Rattle.spargolutta.specs.Reading.{fillOf, filledTo};
+ghost use Rattle.answer.specs.Chain.{◌then◌, fails_here};
+ghost use Rattle.spargolutta.specs.Reading.{fill_of, filled_to};
 
 use answer::Check;
 use big_endian::store::put_bytes;
@@ -13,7 +13,7 @@ use sheet::read::opened;
 // The sheet's refusal, then 27, by what opening the sheet handed on.
 fn fill_check(sheet: Opened, room: usize) -> Check
     requires { sheet.count ≤ 4096 }
-    ensures { result ≡ (sheet.check then failsHere 27 (sheet.count * 12) (ltb room (sheet.count * 12))) }
+    ensures { result ≡ (sheet.check then fails_here 27 (sheet.count * 12) (ltb room (sheet.count * 12))) }
 {
     let check = sheet.check;
     match check {
@@ -30,8 +30,8 @@ fn fill_check(sheet: Opened, room: usize) -> Check
 // Bytes are written if and only if the number is 0.
 #[unsafe(no_mangle)]
 pub extern "C" fn spg_vertices_number(sheet: &[u8], vertices: &mut [u8]) -> u32
-    ensures value { result ≡ number_of (fillOf sheet.now (length vertices.old)) }
-    ensures vertices_after { vertices.new ≡ filledTo sheet.now vertices.old }
+    ensures value { result ≡ number_of (fill_of sheet.now (length vertices.old)) }
+    ensures vertices_after { vertices.new ≡ filled_to sheet.now vertices.old }
 {
     let zone = opened(sheet);
     match fill_check(zone, vertices.len()) {
@@ -44,7 +44,7 @@ pub extern "C" fn spg_vertices_number(sheet: &[u8], vertices: &mut [u8]) -> u32
 
 #[unsafe(no_mangle)]
 pub extern "C" fn spg_vertices_place(sheet: &[u8], room: usize) -> usize
-    ensures { result ≡ place_of (fillOf sheet.now room) }
+    ensures { result ≡ place_of (fill_of sheet.now room) }
 {
     match fill_check(opened(sheet), room) {
         Check::Passed => 0,

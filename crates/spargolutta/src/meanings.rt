@@ -2,8 +2,8 @@
 // SIZES, letters, index, text_start, text_size, put_front; the exported functions, of which spg_meaning_text alone
 // writes.
 ghost use Rattle.std.specs.Prelude.{◌≡◌, ◌<◌, length};
-ghost use Rattle.spargolutta.specs.Meanings.{rows, start_in, letters, index_of, frontOf};
-ghost use Rattle.spargolutta.specs.Meanings.{kind_of, text_of, textTo};
+ghost use Rattle.spargolutta.specs.Meanings.{rows, start_in, letters, index_of, front_of};
+ghost use Rattle.spargolutta.specs.Meanings.{kind_of, text_of, text_to};
 
 use big_endian::store::put_bytes;
 
@@ -85,7 +85,7 @@ fn text_size(number: u32) -> usize
 // As much of the row as fits, in front.
 fn put_front(text: &mut [u8], row: &[u8]) -> usize
     ensures value { result ≡ length row.now }
-    ensures text_after { text.new ≡ frontOf row.now text.old }
+    ensures text_after { text.new ≡ front_of row.now text.old }
 {
     let n = text.len();
     if n < row.len() {
@@ -107,7 +107,7 @@ pub extern "C" fn spg_place_kind(number: u32) -> u32
 #[unsafe(no_mangle)]
 pub extern "C" fn spg_meaning_text(number: u32, text: &mut [u8]) -> usize
     ensures value { result ≡ length (text_of number) }
-    ensures text_after { text.new ≡ textTo number text.old }
+    ensures text_after { text.new ≡ text_to number text.old }
 {
     let start = text_start(number);
     let end = start + text_size(number);

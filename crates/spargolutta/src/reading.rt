@@ -4,9 +4,9 @@
 ghost use Rattle.std.specs.Prelude.{◌≡◌};
 ghost use Rattle.sphere.specs.Point.{Fits, Within};
 ghost use Rattle.answer.specs.Answer.{number_of, place_of};
-ghost use Rattle.book.specs.Which.{gridNumberOf};
+ghost use Rattle.book.specs.Which.{grid_number_of};
 ghost use Rattle.sheet.specs.Sheet.{read_of};
-ghost use Rattle.spargolutta.specs.Reading.{pointNumbers};
+ghost use Rattle.spargolutta.specs.Reading.{point_numbers};
 
 use angles::point::GridNumbers;
 use answer::{number, place};
@@ -25,7 +25,7 @@ fn narrow(k: i64) -> i32
 // A point's three numbers.
 fn numbers(p: Point) -> GridNumbers
     requires { Within 2147483647 p }
-    ensures { result ≡ pointNumbers p }
+    ensures { result ≡ point_numbers p }
 {
     GridNumbers {
         x: narrow(p.x),
@@ -35,7 +35,7 @@ fn numbers(p: Point) -> GridNumbers
 }
 
 fn known(sheet: &[u8]) -> GridNumbers
-    ensures { result ≡ pointNumbers (read_of sheet.now).known }
+    ensures { result ≡ point_numbers (read_of sheet.now).known }
 {
     let s = read(sheet);
     let p = s.known;
@@ -43,7 +43,7 @@ fn known(sheet: &[u8]) -> GridNumbers
 }
 
 fn second(sheet: &[u8]) -> GridNumbers
-    ensures { result ≡ pointNumbers (read_of sheet.now).second }
+    ensures { result ≡ point_numbers (read_of sheet.now).second }
 {
     let s = read(sheet);
     let p = s.second;
@@ -147,7 +147,7 @@ pub extern "C" fn spg_sheet_second_z(sheet: &[u8]) -> i32
 // 0 for the coarse grid, 1 for the fine one.
 #[unsafe(no_mangle)]
 pub extern "C" fn spg_sheet_grid(sheet: &[u8]) -> u32
-    ensures { result ≡ gridNumberOf (read_of sheet.now).grid }
+    ensures { result ≡ grid_number_of (read_of sheet.now).grid }
 {
     let s = read(sheet);
     let grid = s.grid;

@@ -4,8 +4,8 @@
 ghost use Rattle.std.specs.Prelude.{◌≡◌, ◌*◌, ◌≤◌, length};
 ghost use Rattle.answer.specs.Answer.{number_of, place_of};
 ghost use Rattle.polygon.specs.GridClaims.{on};
-ghost use Rattle.spargolutta.specs.Query.{queryOf};
-ghost use Rattle.spargolutta.specs.Writing.{pointGrid, bytesWriteOf, bytesWrittenTo, listSize};
+ghost use Rattle.spargolutta.specs.Query.{query_of};
+ghost use Rattle.spargolutta.specs.Writing.{point_grid, bytes_write_of, bytes_written_to, list_size};
 
 use crate::query;
 use answer::{Answer, number, place};
@@ -14,7 +14,7 @@ use sheet::write::{write, write_answer};
 use sphere::point::{Grid, GridPoint, Point, grid_numbered};
 
 fn point_grid(grid: u32) -> Grid
-    ensures { result ≡ pointGrid grid }
+    ensures { result ≡ point_grid grid }
 {
     if grid == 1 {
         return Grid::Fine;
@@ -23,7 +23,7 @@ fn point_grid(grid: u32) -> Grid
 }
 
 fn placed(grid: u32, p: Point) -> GridPoint
-    ensures { result ≡ on (pointGrid grid) p }
+    ensures { result ≡ on (point_grid grid) p }
 {
     GridPoint {
         grid: point_grid(grid),
@@ -33,7 +33,7 @@ fn placed(grid: u32, p: Point) -> GridPoint
 
 // How many numbers there are to decode: none where 10 is certain.
 fn list_size(n: usize) -> usize
-    ensures { (result ≡ listSize n) × ((result * 4 ≤ n) × (result ≤ 12288)) }
+    ensures { (result ≡ list_size n) × ((result * 4 ≤ n) × (result ≤ 12288)) }
 {
     if n % 12 != 0 {
         return 0;
@@ -55,10 +55,10 @@ fn write_list(
     sheet: &mut [u8],
 ) -> Answer
     ensures value { result
-        ≡ bytesWriteOf charset name.now known second vertices.now grid
+        ≡ bytes_write_of charset name.now known second vertices.now grid
         (length sheet.old) }
     ensures sheet_after { sheet.new
-        ≡ bytesWrittenTo zone charset name.now known second vertices.now grid
+        ≡ bytes_written_to zone charset name.now known second vertices.now grid
         sheet.old }
 {
     let known = placed(grid, known);
@@ -89,7 +89,7 @@ fn answer_list(
     grid: u32,
     room: usize,
 ) -> Answer
-    ensures { result ≡ bytesWriteOf charset name.now known second vertices.now grid room }
+    ensures { result ≡ bytes_write_of charset name.now known second vertices.now grid room }
 {
     let known = placed(grid, known);
     let second = placed(grid, second);
@@ -117,11 +117,11 @@ pub extern "C" fn spg_write_number(
     sheet: &mut [u8],
 ) -> u32
     ensures value { result
-        ≡ number_of (bytesWriteOf charset name.now (queryOf x y z)
-        (queryOf u v w) vertices.now grid (length sheet.old)) }
+        ≡ number_of (bytes_write_of charset name.now (query_of x y z)
+        (query_of u v w) vertices.now grid (length sheet.old)) }
     ensures sheet_after { sheet.new
-        ≡ bytesWrittenTo zone charset name.now (queryOf x y z)
-        (queryOf u v w) vertices.now grid sheet.old }
+        ≡ bytes_written_to zone charset name.now (query_of x y z)
+        (query_of u v w) vertices.now grid sheet.old }
 {
     let known = query(x, y, z);
     let second = query(u, v, w);
@@ -144,8 +144,8 @@ pub extern "C" fn spg_write_place(
     room: usize,
 ) -> usize
     ensures { result
-        ≡ place_of (bytesWriteOf charset name.now (queryOf x y z)
-        (queryOf u v w) vertices.now grid room) }
+        ≡ place_of (bytes_write_of charset name.now (query_of x y z)
+        (query_of u v w) vertices.now grid room) }
 {
     let known = query(x, y, z);
     let second = query(u, v, w);

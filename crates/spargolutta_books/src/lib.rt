@@ -3,7 +3,7 @@
 // two loops over the queries, where a function with two callers would be called for every query of either.
 ghost use Rattle.std.specs.Prelude.{◌≡◌, length};
 ghost use Rattle.answer.specs.Answer.{number_of, place_of, count_of};
-ghost use Rattle.book_feed.specs.Feed.{bookFeedOf, bookResultsAfter};
+ghost use Rattle.book_feed.specs.Feed.{book_feed_of, book_results_after};
 
 use answer::{count, number, place};
 use book_feed::whole::{book_feed, feed_answer};
@@ -16,9 +16,9 @@ pub extern "C" fn spg_book_feed_number(
     queries: &[u8],
     results: &mut [u8],
 ) -> u32
-    ensures value { result ≡ number_of (bookFeedOf book.now queries.now
+    ensures value { result ≡ number_of (book_feed_of book.now queries.now
         (length results.old)) }
-    ensures results_after { results.new ≡ bookResultsAfter book.now grid queries.now
+    ensures results_after { results.new ≡ book_results_after book.now grid queries.now
         results.old }
 {
     number(book_feed(book, grid, queries, results))
@@ -26,14 +26,14 @@ pub extern "C" fn spg_book_feed_number(
 
 #[unsafe(no_mangle)]
 pub extern "C" fn spg_book_feed_place(book: &[u8], _grid: u32, queries: &[u8], room: usize) -> usize
-    ensures { result ≡ place_of (bookFeedOf book.now queries.now room) }
+    ensures { result ≡ place_of (book_feed_of book.now queries.now room) }
 {
     place(feed_answer(book, queries, room))
 }
 
 #[unsafe(no_mangle)]
 pub extern "C" fn spg_book_feed_count(book: &[u8], _grid: u32, queries: &[u8], room: usize) -> u32
-    ensures { result ≡ count_of (bookFeedOf book.now queries.now room) }
+    ensures { result ≡ count_of (book_feed_of book.now queries.now room) }
 {
     count(feed_answer(book, queries, room))
 }

@@ -6,48 +6,48 @@
 -- OctantAnswers (document 01's sheet, with its second point and on either grid).
 use Rattle.std.specs.Prelude.{◌≡◌, true, false, List, ◌++◌, ℕ, ◌*◌, ◌≤◌, ◌<◌, pos, negsuc, length}
 use Rattle.sphere.specs.declared.point.Point.{Point}
-use Rattle.sphere.specs.Point.{limitOf}
-use Rattle.big_endian.specs.Bytes.{AreBytes, word_at, pointBytes}
-use Rattle.feed.specs.Feed.{queryCount}
+use Rattle.sphere.specs.Point.{limit_of}
+use Rattle.big_endian.specs.Bytes.{AreBytes, word_at, point_bytes}
+use Rattle.feed.specs.Feed.{query_count}
 use Rattle.feed.specs.Claims.{HoldsResults}
 use Rattle.answer.specs.declared.Answer.TheVariants.{Done, Inside, Outside, Refused}
 use Rattle.answer.specs.declared.Check.TheVariants.{Passed}
 use Rattle.answer.specs.Answer.{number_of}
-use Rattle.polygon.specs.Vertices.{vertexAt}
-use Rattle.polygon.specs.Pair.{optionalCheck, optionalAnswerOf}
-use Rattle.fields.specs.Fields.{gridOf, hasSecond}
-use Rattle.sheet.specs.Sheet.{zoneOf, charsetOf, name_of, known_of, vertexCountOf, verticesOf, read_of}
-use Rattle.sheet.specs.Write.{fieldBytes}
-use Rattle.sheet.specs.Claims.{ReadsAs, octantBytes, octantPairBytes}
-use Rattle.zone.specs.Judge.{sheetAnswerOf, sheetLookedOf, sheetFeedOf, sheetResultsAfter}
-use Rattle.zone.specs.Choose.{candidatesOf, sheetChooseOf}
+use Rattle.polygon.specs.Vertices.{vertex_at}
+use Rattle.polygon.specs.Pair.{optional_check, optional_answer_of}
+use Rattle.fields.specs.Fields.{grid_of, has_second_point}
+use Rattle.sheet.specs.Sheet.{zone_of, charset_of, name_of, known_of, vertex_count_of, vertices_of, read_of}
+use Rattle.sheet.specs.Write.{field_bytes}
+use Rattle.sheet.specs.Claims.{ReadsAs, octant_bytes, octant_pair_bytes}
+use Rattle.zone.specs.Judge.{sheet_answer_of, sheet_looked_of, sheet_feed_of, sheet_results_after}
+use Rattle.zone.specs.Choose.{candidates_of, sheet_choose_of}
 
 -- With the parts of a sheet that was read: they are accepted, and the answer is theirs.
 abbrev pub SheetAnswersAsList : Type 0
 SheetAnswersAsList =
     (b : List ℕ) (P : Point) → number_of (read_of b).answer ≡ 0 →
     let s = read_of b in
-    (optionalCheck (limitOf s.grid) (verticesOf b) s.known s.second ≡ Passed)
-    × (sheetAnswerOf b P ≡ optionalAnswerOf (limitOf s.grid) (verticesOf b) s.known s.second P)
+    (optional_check (limit_of s.grid) (vertices_of b) s.known s.second ≡ Passed)
+    × (sheet_answer_of b P ≡ optional_answer_of (limit_of s.grid) (vertices_of b) s.known s.second P)
 
 -- After a feed that succeeds the result buffer holds what the single call by the sheet answers to each query.
 abbrev pub SheetFeedEqualsSingle : Type 0
 SheetFeedEqualsSingle =
-    (b queries buffer : List ℕ) → sheetFeedOf b queries (length buffer) ≡ Done 0 →
-    HoldsResults (sheetAnswerOf b) queries buffer (sheetResultsAfter b queries buffer)
+    (b queries buffer : List ℕ) → sheet_feed_of b queries (length buffer) ≡ Done 0 →
+    HoldsResults (sheet_answer_of b) queries buffer (sheet_results_after b queries buffer)
 
 abbrev pub SheetRefusedWritesNothing : Type 0
 SheetRefusedWritesNothing =
-    (b queries buffer : List ℕ) → (sheetFeedOf b queries (length buffer) ≡ Done 0 → ⊥) →
-    sheetResultsAfter b queries buffer ≡ buffer
+    (b queries buffer : List ℕ) → (sheet_feed_of b queries (length buffer) ≡ Done 0 → ⊥) →
+    sheet_results_after b queries buffer ≡ buffer
 
 -- By a sheet with a second point 18 does not occur, on any bytes: not in a single call, and in no result of a feed.
 abbrev pub SheetNeverEighteen : Type 0
 SheetNeverEighteen =
-    (b : List ℕ) → hasSecond b ≡ true →
-    ((P : Point) → number_of (sheetAnswerOf b P) ≡ 18 → ⊥)
-    × ((queries buffer : List ℕ) → sheetFeedOf b queries (length buffer) ≡ Done 0 → (i : ℕ) → i < queryCount queries →
-    word_at (sheetResultsAfter b queries buffer) (i * 12) ≡ 18 → ⊥)
+    (b : List ℕ) → has_second_point b ≡ true →
+    ((P : Point) → number_of (sheet_answer_of b P) ≡ 18 → ⊥)
+    × ((queries buffer : List ℕ) → sheet_feed_of b queries (length buffer) ≡ Done 0 → (i : ℕ) → i < query_count queries →
+    word_at (sheet_results_after b queries buffer) (i * 12) ≡ 18 → ⊥)
 
 -- A verdict, or a refusal of the sheet (11 to 16, 19 to 24) or of the query (17, 18).
 pub data IsQueryNumber (n : ℕ) : Type 0 where
@@ -56,21 +56,21 @@ pub data IsQueryNumber (n : ℕ) : Type 0 where
 
 -- No query by a sheet has another number, on any bytes.
 abbrev pub SheetNumbers : Type 0
-SheetNumbers = (b : List ℕ) (P : Point) → IsQueryNumber (number_of (sheetAnswerOf b P))
+SheetNumbers = (b : List ℕ) (P : Point) → IsQueryNumber (number_of (sheet_answer_of b P))
 
 -- The edges looked at are never more than the sheet has.
 abbrev pub SheetLookedAtMost : Type 0
-SheetLookedAtMost = (b : List ℕ) (P : Point) → sheetLookedOf b P ≤ vertexCountOf b
+SheetLookedAtMost = (b : List ℕ) (P : Point) → sheet_looked_of b P ≤ vertex_count_of b
 
 -- A good sheet without a second point, with the candidate that was chosen for it behind it as tag 6, is a good sheet
 -- that reads back with that point.
 abbrev pub ChosenReadsBack : Type 0
 ChosenReadsBack =
-    (b candidates : List ℕ) (i : ℕ) → AreBytes b → number_of (read_of b).answer ≡ 0 → hasSecond b ≡ false →
-    sheetChooseOf b candidates ≡ Done i →
-    let chosen = vertexAt (candidatesOf candidates) i in
-    ReadsAs (zoneOf b) (charsetOf b) (name_of b) (known_of b) (gridOf b) (verticesOf b) chosen
-    (b ++ fieldBytes 6 (pointBytes chosen))
+    (b candidates : List ℕ) (i : ℕ) → AreBytes b → number_of (read_of b).answer ≡ 0 → has_second_point b ≡ false →
+    sheet_choose_of b candidates ≡ Done i →
+    let chosen = vertex_at (candidates_of candidates) i in
+    ReadsAs (zone_of b) (charset_of b) (name_of b) (known_of b) (grid_of b) (vertices_of b) chosen
+    (b ++ field_bytes 6 (point_bytes chosen))
 
 -- K8, opposite the known point, is judged where the octant's sheet has a second point; and a query beyond the coarse
 -- grid where its tag is 7.
@@ -82,7 +82,7 @@ beyond = record { x = pos 1048577; y = pos 1; z = pos 1 }
 
 abbrev pub OctantAnswers : Type 0
 OctantAnswers =
-    (sheetAnswerOf (octantBytes 5) farthest ≡ Refused 18 0)
-    × (sheetAnswerOf octantPairBytes farthest ≡ Outside 1 (negsuc 0))
-    × (sheetAnswerOf (octantBytes 5) beyond ≡ Refused 17 0)
-    × (sheetAnswerOf (octantBytes 7) beyond ≡ Inside 0 (pos 0))
+    (sheet_answer_of (octant_bytes 5) farthest ≡ Refused 18 0)
+    × (sheet_answer_of octant_pair_bytes farthest ≡ Outside 1 (negsuc 0))
+    × (sheet_answer_of (octant_bytes 5) beyond ≡ Refused 17 0)
+    × (sheet_answer_of (octant_bytes 7) beyond ≡ Inside 0 (pos 0))

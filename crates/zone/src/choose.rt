@@ -2,13 +2,13 @@
 // Here, in order: candidate_at, earliest, choose. Candidates have twelve bytes each, and there is any
 // number of them: they are decoded one at a time.
 ghost use Rattle.std.specs.Prelude.{◌≡◌, ◌<◌};
-ghost use Rattle.sphere.specs.Point.{limitOf};
+ghost use Rattle.sphere.specs.Point.{limit_of};
 ghost use Rattle.answer.specs.declared.Check.TheVariants.{Passed};
-ghost use Rattle.polygon.specs.Vertices.{vertexAt};
-ghost use Rattle.polygon.specs.Checks.{acceptCheck};
-ghost use Rattle.polygon.specs.Pair.{chooseOf};
+ghost use Rattle.polygon.specs.Vertices.{vertex_at};
+ghost use Rattle.polygon.specs.Checks.{accept_check};
+ghost use Rattle.polygon.specs.Pair.{choose_of};
 ghost use Rattle.search.specs.Boxes.{Boxed};
-ghost use Rattle.zone.specs.Choose.{candidateCount, candidatesOf, sheetChooseOf};
+ghost use Rattle.zone.specs.Choose.{candidate_count, candidates_of, sheet_choose_of};
 
 use answer::{Answer, Check};
 use big_endian::read;
@@ -17,17 +17,17 @@ use sheet::open::plain_into;
 use sphere::point::{Grid, Point};
 
 fn candidate_at(candidates: &[u8], i: usize) -> Point
-    requires { i < candidateCount candidates.now }
-    ensures { result ≡ vertexAt (candidatesOf candidates.now) i }
+    requires { i < candidate_count candidates.now }
+    ensures { result ≡ vertex_at (candidates_of candidates.now) i }
 {
     read::point_at(candidates, i * 12)
 }
 
 // The earliest candidate that passes, for a polygon that is accepted, with its boxes.
 fn earliest(grid: Grid, vertices: &[i32], boxes: &[i32], known: Point, candidates: &[u8]) -> Answer
-    requires { (acceptCheck (limitOf grid) vertices.now known ≡ Passed) × Boxed vertices.now boxes.now }
-    ensures { result ≡ chooseOf (limitOf grid) vertices.now known
-        (candidatesOf candidates.now) }
+    requires { (accept_check (limit_of grid) vertices.now known ≡ Passed) × Boxed vertices.now boxes.now }
+    ensures { result ≡ choose_of (limit_of grid) vertices.now known
+        (candidates_of candidates.now) }
 {
     let n = candidates.len() / 12;
     for i in 0..n {
@@ -40,7 +40,7 @@ fn earliest(grid: Grid, vertices: &[i32], boxes: &[i32], known: Point, candidate
 
 // The earliest candidate that passes beside the sheet's known point. The sheet's own second point is not looked at.
 pub fn choose(b: &[u8], candidates: &[u8]) -> Answer
-    ensures { result ≡ sheetChooseOf b.now candidates.now }
+    ensures { result ≡ sheet_choose_of b.now candidates.now }
 {
     if candidates.len() % 12 != 0 {
         return Answer::Refused(10, 0);

@@ -2,7 +2,7 @@
 // Here, in order: feed_check, feed_answer (nothing is written); feed_in; feed_short, feed_middle, feed_long, feed (by
 // the sheet's size).
 ghost use Rattle.std.specs.Prelude.{◌≡◌, ◌≤◌, length};
-ghost use Rattle.zone.specs.Judge.{sheetFeedCheck, sheetFeedOf, sheetResultsAfter};
+ghost use Rattle.zone.specs.Judge.{sheet_feed_check, sheet_feed_of, sheet_results_after};
 ghost use Rattle.sheet.specs.Open.{room_for, BoxesFor};
 
 use answer::{Answer, Check};
@@ -12,7 +12,7 @@ use sheet::read::sheet_check;
 
 // All that is checked once for a feed, with `room` bytes for its results.
 pub fn feed_check(sheet: &[u8], queries: &[u8], room: usize) -> Check
-    ensures { result ≡ sheetFeedCheck sheet.now queries.now room }
+    ensures { result ≡ sheet_feed_check sheet.now queries.now room }
 {
     match size_check(queries, room) {
         Check::Passed => {}
@@ -23,7 +23,7 @@ pub fn feed_check(sheet: &[u8], queries: &[u8], room: usize) -> Check
 
 // What `feed` would answer with `room` bytes for the results.
 pub fn feed_answer(sheet: &[u8], queries: &[u8], room: usize) -> Answer
-    ensures { result ≡ sheetFeedOf sheet.now queries.now room }
+    ensures { result ≡ sheet_feed_of sheet.now queries.now room }
 {
     match feed_check(sheet, queries, room) {
         Check::Passed => Answer::Done(0),
@@ -40,8 +40,8 @@ fn feed_in(
     boxes: &mut [i32],
 ) -> Answer
     requires { (room_for sheet.now ≤ length scratch.old) × BoxesFor sheet.now boxes.old }
-    ensures value { result ≡ sheetFeedOf sheet.now queries.now (length results.old) }
-    ensures results_after { results.new ≡ sheetResultsAfter sheet.now queries.now
+    ensures value { result ≡ sheet_feed_of sheet.now queries.now (length results.old) }
+    ensures results_after { results.new ≡ sheet_results_after sheet.now queries.now
         results.old }
 {
     match size_check(queries, results.len()) {
@@ -71,8 +71,8 @@ fn feed_in(
 // The sizes of `judge`.
 fn feed_short(sheet: &[u8], queries: &[u8], results: &mut [u8]) -> Answer
     requires { length sheet.now ≤ 3072 }
-    ensures value { result ≡ sheetFeedOf sheet.now queries.now (length results.old) }
-    ensures results_after { results.new ≡ sheetResultsAfter sheet.now queries.now
+    ensures value { result ≡ sheet_feed_of sheet.now queries.now (length results.old) }
+    ensures results_after { results.new ≡ sheet_results_after sheet.now queries.now
         results.old }
 {
     let mut scratch = [0i32; 768];
@@ -82,8 +82,8 @@ fn feed_short(sheet: &[u8], queries: &[u8], results: &mut [u8]) -> Answer
 
 fn feed_middle(sheet: &[u8], queries: &[u8], results: &mut [u8]) -> Answer
     requires { length sheet.now ≤ 16384 }
-    ensures value { result ≡ sheetFeedOf sheet.now queries.now (length results.old) }
-    ensures results_after { results.new ≡ sheetResultsAfter sheet.now queries.now
+    ensures value { result ≡ sheet_feed_of sheet.now queries.now (length results.old) }
+    ensures results_after { results.new ≡ sheet_results_after sheet.now queries.now
         results.old }
 {
     let mut scratch = [0i32; 4096];
@@ -92,8 +92,8 @@ fn feed_middle(sheet: &[u8], queries: &[u8], results: &mut [u8]) -> Answer
 }
 
 fn feed_long(sheet: &[u8], queries: &[u8], results: &mut [u8]) -> Answer
-    ensures value { result ≡ sheetFeedOf sheet.now queries.now (length results.old) }
-    ensures results_after { results.new ≡ sheetResultsAfter sheet.now queries.now
+    ensures value { result ≡ sheet_feed_of sheet.now queries.now (length results.old) }
+    ensures results_after { results.new ≡ sheet_results_after sheet.now queries.now
         results.old }
 {
     let mut scratch = [0i32; 12288];
@@ -103,8 +103,8 @@ fn feed_long(sheet: &[u8], queries: &[u8], results: &mut [u8]) -> Answer
 
 // Judges every query and writes its result. A refusal changes no byte of the results.
 pub fn feed(sheet: &[u8], queries: &[u8], results: &mut [u8]) -> Answer
-    ensures value { result ≡ sheetFeedOf sheet.now queries.now (length results.old) }
-    ensures results_after { results.new ≡ sheetResultsAfter sheet.now queries.now
+    ensures value { result ≡ sheet_feed_of sheet.now queries.now (length results.old) }
+    ensures results_after { results.new ≡ sheet_results_after sheet.now queries.now
         results.old }
 {
     if sheet.len() <= 3072 {

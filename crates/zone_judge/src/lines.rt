@@ -4,7 +4,7 @@
 ghost use Rattle.std.specs.Prelude.{◌≡◌, ◌+◌, ◌≤◌, length};
 ghost use Rattle.std.proofs.lemmas.List.Edits.{sets};
 ghost use Rattle.answer.specs.Answer.{number_of, place_of, count_of};
-ghost use Rattle.zone_judge.specs.Line.{decimal, ended, line_of, resultLine};
+ghost use Rattle.zone_judge.specs.Line.{decimal, ended, line_of, result_line};
 
 use crate::calls;
 use answer::Answer;
@@ -56,8 +56,8 @@ pub(crate) fn put_line(number: u32, place: u64, count: u32, out: &mut [u8], at: 
 // The line of the result that begins `from` bytes into `results`.
 pub(crate) fn put_result(results: &[u8], from: usize, out: &mut [u8], at: usize) -> usize
     requires { (from + 12 ≤ length results.now) × (at + 63 ≤ length out.old) }
-    ensures put { out.new ≡ sets out.old at (resultLine results.now from) }
-    ensures end { result ≡ at + length (resultLine results.now from) }
+    ensures put { out.new ≡ sets out.old at (result_line results.now from) }
+    ensures end { result ≡ at + length (result_line results.now from) }
     ensures most { result ≤ at + 63 }
 {
     let number = read::word_at(results, from);

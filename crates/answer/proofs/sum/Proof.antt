@@ -33,8 +33,8 @@ returns-4 c = rw c.enum-told2.given.1
 returns-5 : tie.Need-returns-5
 returns-5 c = rw c.enum-told3.given.1
 
-pub sum-spec : {M : Type 1} → statement M
-sum-spec =
+pub sum_spec : {M : Type 1} → statement M
+sum_spec =
     tie.close
     (tie.spec
     enum_told

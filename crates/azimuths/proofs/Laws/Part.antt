@@ -1,5 +1,5 @@
--- How far a direction is into its quarter turn: b of d = a + b. Proved, in order: part-most, part-within, part-full,
--- part_none (the ends); products; part-less (parts that differ), part-across (directions of neighbouring quarters).
+-- How far a direction is into its quarter turn: b of d = a + b. Proved, in order: part_most, part_within, part_full,
+-- part_none (the ends); products; part_less (parts that differ), part_across (directions of neighbouring quarters).
 use mathlib.Core.Path.{◌≡◌, refl, ap}
 use Prim.Native.Nat.{ℕ, zero, suc, ◌+◌, ◌*◌, ◌≤◌, ◌<◌}
 use native.Mathlib.Nat.{div-lt_iff_lt-mul, div-le_of_le-mul, div-eq_of_eq-mul_left, zero-div, div-add-mod', mod-lt}
@@ -8,14 +8,14 @@ use native.Mathlib.Omega.{arith}
 use Rattle.azimuths.specs.Azimuth.{part_of}
 
 module _ (a b d : ℕ) (whole : d ≡ a + b) where
-  pub part-most : part_of b d ≤ 16384
-  part-most = div-le_of_le-mul d (omega arith)
+  pub part_most : part_of b d ≤ 16384
+  part_most = div-le_of_le-mul d (omega arith)
 
-  pub part-within : 0 < a → part_of b d < 16384
-  part-within h = (div-lt_iff_lt-mul {k = d} {x = b * 16384} {y = 16384} (omega arith)).1 (omega arith)
+  pub part_within : 0 < a → part_of b d < 16384
+  part_within h = (div-lt_iff_lt-mul {k = d} {x = b * 16384} {y = 16384} (omega arith)).1 (omega arith)
 
-  pub part-full : 0 < d → a ≡ 0 → part_of b d ≡ 16384
-  part-full h e = div-eq_of_eq-mul_left h (omega arith)
+  pub part_full : 0 < d → a ≡ 0 → part_of b d ≡ 16384
+  part_full h e = div-eq_of_eq-mul_left h (omega arith)
 
   pub part_none : b ≡ 0 → part_of b d ≡ 0
   part_none e = rw e (zero-div d)
@@ -33,8 +33,8 @@ products zero (suc b) a' (suc b') h k s t = omega arith
 
 module _ (a b d a' b' d' : ℕ) (whole : d ≡ a + b) (whole' : d' ≡ a' + b') (some : 0 < d) (some' : 0 < d') where
   -- the second part is at least one more: both sides are multiplied by the sums
-  pub part-less : part_of b d < part_of b' d' → b * a' < a * b'
-  part-less h =
+  pub part_less : part_of b d < part_of b' d' → b * a' < a * b'
+  part_less h =
       let n = part_of b' d' in
       let up : b * 16384 < n * d =
       omega (arith, div-add-mod' (b * 16384) d, mod-lt (b * 16384) some, mul-le-mul_right d h) in
@@ -43,9 +43,9 @@ module _ (a b d a' b' d' : ℕ) (whole : d ≡ a + b) (whole' : d' ≡ a' + b') 
       omega (arith, ap (λ k. b * k) whole', ap (λ k. b' * k) whole)
 
   -- else one of the two is at its quarter's end, and the other at its start
-  pub part-across : (part_of b d ≡ 16384 → part_of b' d' ≡ 0 → ⊥) → (part_of b d ≡ 0 → part_of b' d' ≡ 16384 → ⊥) →
+  pub part_across : (part_of b d ≡ 16384 → part_of b' d' ≡ 0 → ⊥) → (part_of b d ≡ 0 → part_of b' d' ≡ 16384 → ⊥) →
       0 < a * a' + b * b'
-  part-across h k = products a b a' b'
-      (λ e f. h (part-full a b d whole some e) (part_none a' b' d' whole' f))
-      (λ e f. k (part_none a b d whole e) (part-full a' b' d' whole' some' f))
+  part_across h k = products a b a' b'
+      (λ e f. h (part_full a b d whole some e) (part_none a' b' d' whole' f))
+      (λ e f. k (part_none a b d whole e) (part_full a' b' d' whole' some' f))
       (omega arith) (omega arith)

@@ -1,14 +1,14 @@
--- Tests joined by 'or'. Proved, in order: or-first, or-second, or_cases, T_true.
+-- Tests joined by 'or'. Proved, in order: or_first, or_second, or_cases, T_true.
 use mathlib.Core.Path.{◌≡◌, refl}
 use mathlib.Core.Bool.{Bool, true, false, ◌||◌}
 use lib.Dec.{T}
 
-pub or-first : (a b : Bool) → a ≡ true → (a || b) ≡ true
-or-first a b e = rw e
+pub or_first : (a b : Bool) → a ≡ true → (a || b) ≡ true
+or_first a b e = rw e
 
-pub or-second : (a b : Bool) → b ≡ true → (a || b) ≡ true
-or-second true b e = refl
-or-second false b e = e
+pub or_second : (a b : Bool) → b ≡ true → (a || b) ≡ true
+or_second true b e = refl
+or_second false b e = e
 
 pub or_cases : (a b : Bool) {Q : Type 0} → T (a || b) → (T a → Q) → (T b → Q) → Q
 or_cases true b t f g = f tt

@@ -1,5 +1,5 @@
--- What the search over pairs says of each pair. Defined: First (the pair that was found). Proved, in order: pairs-none,
--- pairs-found.
+-- What the search over pairs says of each pair. Defined: First (the pair that was found). Proved, in order: pairs_none,
+-- pairs_found.
 use mathlib.Core.Path.{◌≡◌, refl, sym, subst}
 use mathlib.Core.Logic.{⊎_elim}
 use mathlib.Core.Bool.{Bool, true, false}
@@ -8,29 +8,29 @@ use native.Mathlib.Omega.{arith}
 use native.Mathlib.Nat.{eq-or-lt_of_le}
 use Rattle.answer.specs.declared.Found.{Found}
 use Rattle.answer.specs.declared.Found.TheVariants.{Nothing, At}
-use Rattle.answer.specs.Search.{firstFrom}
+use Rattle.answer.specs.Search.{first_from}
 use Rattle.answer.proofs.Laws.First.{Lowest, first_found}
-use Rattle.answer.proofs.Laws.Search.{first-none}
+use Rattle.answer.proofs.Laws.Search.{first_none}
 use Rattle.basin.specs.declared.pairs.FirstPair.{FirstPair}
 use Rattle.basin.specs.declared.pairs.FirstPair.TheVariants.{Apart, Pair}
-use Rattle.basin.specs.Pairs.{rowOr, pairsFrom}
+use Rattle.basin.specs.Pairs.{row_or, pairs_from}
 
 never : {A : Type 0} {i j : ℕ} → Pair i j ≡ Apart → A
 never e = let z : ◌≡◌ {A = ℕ} 0 1 = cc in absurd (omega arith)
 
 -- A row that found nothing, and the rest.
-row_apart : (i : ℕ) (f : Found) (later : FirstPair) → rowOr i f later ≡ Apart → (f ≡ Nothing) × (later ≡ Apart)
+row_apart : (i : ℕ) (f : Found) (later : FirstPair) → row_or i f later ≡ Apart → (f ≡ Nothing) × (later ≡ Apart)
 row_apart i Nothing later e = (refl, e)
 row_apart i (At j) later e = never e
 
 module _ (test : ℕ → ℕ → Bool) where
-  pub pairs-none : (i k : ℕ) → pairsFrom test i k ≡ Apart → (h j : ℕ) → i ≤ h → h < j → j < i + k → test h j ≡ false
-  unfolding pairsFrom
-  pairs-none i zero e h j from low below = absurd (omega arith)
-  pairs-none i (suc k) e h j from low below =
-      let r = row_apart i (firstFrom (test i) (suc i) k) (pairsFrom test (suc i) k) e in
-      ⊎_elim (λ q. subst (λ h. test h j ≡ false) q (first-none (test i) (suc i) k j r.0 (omega arith) (omega arith)))
-      (λ more. pairs-none (suc i) k r.1 h j more low (omega arith)) (eq-or-lt_of_le from)
+  pub pairs_none : (i k : ℕ) → pairs_from test i k ≡ Apart → (h j : ℕ) → i ≤ h → h < j → j < i + k → test h j ≡ false
+  unfolding pairs_from
+  pairs_none i zero e h j from low below = absurd (omega arith)
+  pairs_none i (suc k) e h j from low below =
+      let r = row_apart i (first_from (test i) (suc i) k) (pairs_from test (suc i) k) e in
+      ⊎_elim (λ q. subst (λ h. test h j ≡ false) q (first_none (test i) (suc i) k j r.0 (omega arith) (omega arith)))
+      (λ more. pairs_none (suc i) k r.1 h j more low (omega arith)) (eq-or-lt_of_le from)
 
   -- the pair that was found, from row i on
   pub record First (i k a b : ℕ) : Type 0 where
@@ -60,25 +60,25 @@ module _ (test : ℕ → ℕ → Bool) where
       none : (h : ℕ) → i ≤ h → h < i → ⊥
       none h a b = omega arith
 
-  later : (i k a b : ℕ) → firstFrom (test i) (suc i) k ≡ Nothing → First (suc i) k a b → First i (suc k) a b
+  later : (i k a b : ℕ) → first_from (test i) (suc i) k ≡ Nothing → First (suc i) k a b → First i (suc k) a b
   later i k a b e f = record {
     from = omega (arith, f.from);
     order = f.order;
     below = omega (arith, f.below);
     holds = f.holds;
     rows = λ h j p q r s. ⊎_elim
-        (λ z. subst (λ h. test h j ≡ false) z (first-none (test i) (suc i) k j e (omega arith) (omega arith)))
+        (λ z. subst (λ h. test h j ≡ false) z (first_none (test i) (suc i) k j e (omega arith) (omega arith)))
         (λ more. f.rows h j more q r (omega arith)) (eq-or-lt_of_le p);
     row = f.row;
   }
 
-  pub pairs-found : (i k a b : ℕ) → pairsFrom test i k ≡ Pair a b → First i k a b
-  unfolding pairsFrom
-  pairs-found i zero a b e = never (sym e)
-  pairs-found i (suc k) a b e = go (firstFrom (test i) (suc i) k) refl e (pairs-found (suc i) k a b)
+  pub pairs_found : (i k a b : ℕ) → pairs_from test i k ≡ Pair a b → First i k a b
+  unfolding pairs_from
+  pairs_found i zero a b e = never (sym e)
+  pairs_found i (suc k) a b e = go (first_from (test i) (suc i) k) refl e (pairs_found (suc i) k a b)
     where
-      go : (f : Found) → firstFrom (test i) (suc i) k ≡ f → rowOr i f (pairsFrom test (suc i) k) ≡ Pair a b →
-          (pairsFrom test (suc i) k ≡ Pair a b → First (suc i) k a b) → First i (suc k) a b
+      go : (f : Found) → first_from (test i) (suc i) k ≡ f → row_or i f (pairs_from test (suc i) k) ≡ Pair a b →
+          (pairs_from test (suc i) k ≡ Pair a b → First (suc i) k a b) → First i (suc k) a b
       go (At j) p e rest = subst (λ b. First i (suc k) a b) (same_second e)
           (subst (λ a. First i (suc k) a j) (same_first e) (here i k j (first_found (test i) (suc i) k j p)))
       go Nothing p e rest = later i k a b p (rest e)

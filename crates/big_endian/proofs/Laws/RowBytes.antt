@@ -1,4 +1,4 @@
--- Rows of bytes of one width, stored one a turn and found again. Proved, in order: rows-length, rows_more (a turn of the
+-- Rows of bytes of one width, stored one a turn and found again. Proved, in order: rows_length, rows_more (a turn of the
 -- loop), row_at (row i among all).
 use mathlib.Core.Path.{◌≡◌, ◌∙◌}
 use mathlib.Core.Logic.{⊎_elim}
@@ -13,15 +13,15 @@ use Rattle.big_endian.specs.Bytes.{rows_of}
 use Rattle.big_endian.proofs.Laws.Stores.{stored_on}
 
 module _ (width : ℕ) (row : ℕ → List ℕ) (sized : (i : ℕ) → length (row i) ≡ width) where
-  pub rows-length : (n : ℕ) → length (rows_of row n) ≡ n * width
+  pub rows_length : (n : ℕ) → length (rows_of row n) ≡ n * width
   unfolding rows_of
-  rows-length zero = omega arith
-  rows-length (suc n) = length-append (rows_of row n) (row n) ∙ omega (arith, rows-length n, sized n)
+  rows_length zero = omega arith
+  rows_length (suc n) = length-append (rows_of row n) (row n) ∙ omega (arith, rows_length n, sized n)
 
   pub rows_more :
       (l : List ℕ) (i : ℕ) → sets (sets l 0 (rows_of row i)) (i * width) (row i) ≡ sets l 0 (rows_of row (i + 1))
   unfolding rows_of
-  rows_more l i = rw add-one (stored_on l 0 (i * width) (rows_of row i) (row i) (omega (arith, rows-length i)))
+  rows_more l i = rw add-one (stored_on l 0 (i * width) (rows_of row i) (row i) (omega (arith, rows_length i)))
 
   -- Row i among all of them, whatever follows.
   pub row_at : (n i : ℕ) (rest : List ℕ) → i < n → take width (drop (i * width) (rows_of row n ++ rest)) ≡ row i
@@ -33,5 +33,5 @@ module _ (width : ℕ) (row : ℕ → List ℕ) (sized : (i : ℕ) → length (r
     where
       last : i ≡ n → take width (drop (i * width) (rows_of row n ++ (row n ++ rest))) ≡ row i
       last e =
-          rw (e, drop_at (rows_of row n) (row n ++ rest) (n * width) (rows-length n))
+          rw (e, drop_at (rows_of row n) (row n ++ rest) (n * width) (rows_length n))
           (take_at (row n) rest width (sized n))

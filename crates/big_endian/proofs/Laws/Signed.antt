@@ -1,5 +1,5 @@
 -- Signed numbers where the code crosses zero.
--- Proved, in order: below-zero, above_zero, is_pos, is-neg, widens, narrows, held.
+-- Proved, in order: below_zero, above_zero, is_pos, is_neg, widens, narrows, held.
 use mathlib.Core.Path.{◌≡◌, refl, sym, ◌∙◌}
 use mathlib.Core.Bool.{true, false, true≢false, false≢true}
 use Prim.Native.Nat.{ℕ, zero, suc, ◌-◌, ◌^◌, ◌<◌}
@@ -15,9 +15,9 @@ use mir.ValLaws.{to_z-of_z}
 use Rattle.sphere.specs.Point.{Fits}
 
 -- -1 - k is the number below zero that k counts, and back.
-pub below-zero : (k : ℕ) → negsuc 0 -ℤ pos k ≡ negsuc k
-below-zero zero = refl
-below-zero (suc k) = rw zero-add
+pub below_zero : (k : ℕ) → negsuc 0 -ℤ pos k ≡ negsuc k
+below_zero zero = refl
+below_zero (suc k) = rw zero-add
 
 pub above_zero : (k : ℕ) → negsuc 0 -ℤ negsuc k ≡ pos k
 above_zero k = let e : suc k - 1 ≡ k = omega arith in rw (le-ltb (suc k) 1 (omega arith), e)
@@ -27,9 +27,9 @@ pub is_pos : (z : ℤ) → le_z (pos 0) z ≡ true → z ≡ pos (mag z)
 is_pos (pos n) e = refl
 is_pos (negsuc n) e = absurd (false≢true e)
 
-pub is-neg : (z : ℤ) → le_z (pos 0) z ≡ false → z ≡ negsuc (mag z)
-is-neg (pos n) e = absurd (true≢false (sym (leb-zero n) ∙ e))
-is-neg (negsuc n) e = refl
+pub is_neg : (z : ℤ) → le_z (pos 0) z ≡ false → z ≡ negsuc (mag z)
+is_neg (pos n) e = absurd (true≢false (sym (leb-zero n) ∙ e))
+is_neg (negsuc n) e = refl
 
 -- What fits 32 bits fits 64, and what is below 2^31 in size fits 32.
 pub widens : {z : ℤ} → SFits w32 z → SFits w64 z

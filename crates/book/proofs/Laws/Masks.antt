@@ -1,6 +1,6 @@
--- Sets, zone by zone. Defined: stacked (a mask above i bits of another), stackedSets, whichOn (the book's answer from
--- the sets of its first i zones and from the sheets that follow). Proved, in order: double, shifted, stack-bit,
--- bit_below; zones-below; stack-none, on-start, on-sheet, on-end.
+-- Sets, zone by zone. Defined: stacked (a mask above i bits of another), stacked_sets, which_on (the book's answer from
+-- the sets of its first i zones and from the sheets that follow). Proved, in order: double, shifted, stack_bit,
+-- bit_below; zones_below; stack_none, on_start, on_sheet, on_end.
 use mathlib.Core.Path.{◌≡◌, refl, sym, ap}
 use mathlib.Core.Bool.{Bool, true, false}
 use mathlib.Core.List.{List, [], map}
@@ -12,9 +12,9 @@ use Rattle.answer.specs.declared.Answer.{Answer}
 use Rattle.book.specs.declared.sets.Sets.{Sets}
 use Rattle.book.specs.declared.sets.Which.{Which}
 use Rattle.book.specs.Split.{Split, Whole, Broken, joined}
-use Rattle.book.specs.Sets.{isInside, isBoundary, is_refused, digit, mask_of, setsOf, foundOf, brokenAt}
-use Rattle.book.specs.Sets.{noZones, Below, withBit, addedTo}
-use Rattle.book.specs.Which.{whichAfter}
+use Rattle.book.specs.Sets.{is_inside, is_boundary, is_refused, digit, mask_of, sets_of, found_of, broken_at}
+use Rattle.book.specs.Sets.{no_zones, Below, with_bit, added_to}
+use Rattle.book.specs.Which.{which_after}
 
 -- ---- one mask
 
@@ -30,61 +30,61 @@ shifted high digit power =
     let twice : high * 2 ≡ high + high = omega arith in
     rw (add-mul, twice, add-mul, mul-add)
 
-pub stack-bit : (t : Bool) (i low high : ℕ) →
-    stacked (i + 1) (withBit t i low) high ≡ stacked i low (high * 2 + digit t)
-stack-bit true i low high = rw (double i) (let s = shifted high 1 (2 ^ i) in omega (arith, one-mul (2 ^ i)))
-stack-bit false i low high = rw (double i) (let s = shifted high 0 (2 ^ i) in omega (arith, zero-mul (2 ^ i)))
+pub stack_bit : (t : Bool) (i low high : ℕ) →
+    stacked (i + 1) (with_bit t i low) high ≡ stacked i low (high * 2 + digit t)
+stack_bit true i low high = rw (double i) (let s = shifted high 1 (2 ^ i) in omega (arith, one-mul (2 ^ i)))
+stack_bit false i low high = rw (double i) (let s = shifted high 0 (2 ^ i) in omega (arith, zero-mul (2 ^ i)))
 
-pub bit_below : (t : Bool) (i low : ℕ) → low < 2 ^ i → withBit t i low < 2 ^ (i + 1)
+pub bit_below : (t : Bool) (i low : ℕ) → low < 2 ^ i → with_bit t i low < 2 ^ (i + 1)
 bit_below true i low h = rw (double i) (omega arith)
 bit_below false i low h = rw (double i) (omega arith)
 
 -- ---- the three
 
-pub zones-below : (i : ℕ) (sets : Sets) (answer : Answer) → Below i sets → Below (i + 1) (addedTo sets i answer)
-zones-below i sets answer b = record {
-  inside = bit_below (isInside answer) i sets.inside b.inside;
-  boundary = bit_below (isBoundary answer) i sets.boundary b.boundary;
+pub zones_below : (i : ℕ) (sets : Sets) (answer : Answer) → Below i sets → Below (i + 1) (added_to sets i answer)
+zones_below i sets answer b = record {
+  inside = bit_below (is_inside answer) i sets.inside b.inside;
+  boundary = bit_below (is_boundary answer) i sets.boundary b.boundary;
   refused = bit_below (is_refused answer) i sets.refused b.refused;
 }
 
-abbrev pub stackedSets : ℕ → Sets → Sets → Sets
-stackedSets i low high = record {
+abbrev pub stacked_sets : ℕ → Sets → Sets → Sets
+stacked_sets i low high = record {
   inside = stacked i low.inside high.inside;
   boundary = stacked i low.boundary high.boundary;
   refused = stacked i low.refused high.refused;
 }
 
-abbrev pub whichOn : (List ℕ → Answer) → ℕ → Sets → Split → Which
-whichOn answer i low (Whole parts) = foundOf (stackedSets i low (setsOf (map answer parts)))
-whichOn answer i low (Broken number place) = brokenAt number place
+abbrev pub which_on : (List ℕ → Answer) → ℕ → Sets → Split → Which
+which_on answer i low (Whole parts) = found_of (stacked_sets i low (sets_of (map answer parts)))
+which_on answer i low (Broken number place) = broken_at number place
 
 module _ (answer : List ℕ → Answer) where
-  stack-none : (high : ℕ) → stacked 0 0 high ≡ high
-  stack-none high = rw (mul-one, add-zero)
+  stack_none : (high : ℕ) → stacked 0 0 high ≡ high
+  stack_none high = rw (mul-one, add-zero)
 
-  pub on-start : (s : Split) → whichAfter answer s ≡ whichOn answer 0 noZones s
-  on-start (Whole parts) = ap foundOf (λ j. record {
-    inside = sym (stack-none (mask_of isInside (map answer parts))) j;
-    boundary = sym (stack-none (mask_of isBoundary (map answer parts))) j;
-    refused = sym (stack-none (mask_of is_refused (map answer parts))) j;
+  pub on_start : (s : Split) → which_after answer s ≡ which_on answer 0 no_zones s
+  on_start (Whole parts) = ap found_of (λ j. record {
+    inside = sym (stack_none (mask_of is_inside (map answer parts))) j;
+    boundary = sym (stack_none (mask_of is_boundary (map answer parts))) j;
+    refused = sym (stack_none (mask_of is_refused (map answer parts))) j;
   })
-  on-start (Broken number place) = refl
+  on_start (Broken number place) = refl
 
-  pub on-sheet :
+  pub on_sheet :
       (i : ℕ) (low : Sets) (part : List ℕ) (s : Split) →
-      whichOn answer i low (joined part s) ≡ whichOn answer (i + 1) (addedTo low i (answer part)) s
+      which_on answer i low (joined part s) ≡ which_on answer (i + 1) (added_to low i (answer part)) s
   unfolding mask_of
-  on-sheet i low part (Whole parts) = ap foundOf (λ j. record {
-    inside = sym (stack-bit (isInside (answer part)) i low.inside (mask_of isInside (map answer parts))) j;
-    boundary = sym (stack-bit (isBoundary (answer part)) i low.boundary (mask_of isBoundary (map answer parts))) j;
-    refused = sym (stack-bit (is_refused (answer part)) i low.refused (mask_of is_refused (map answer parts))) j;
+  on_sheet i low part (Whole parts) = ap found_of (λ j. record {
+    inside = sym (stack_bit (is_inside (answer part)) i low.inside (mask_of is_inside (map answer parts))) j;
+    boundary = sym (stack_bit (is_boundary (answer part)) i low.boundary (mask_of is_boundary (map answer parts))) j;
+    refused = sym (stack_bit (is_refused (answer part)) i low.refused (mask_of is_refused (map answer parts))) j;
   })
-  on-sheet i low part (Broken number place) = refl
+  on_sheet i low part (Broken number place) = refl
 
-  pub on-end : (i : ℕ) (low : Sets) → whichOn answer i low (Whole []) ≡ foundOf low
+  pub on_end : (i : ℕ) (low : Sets) → which_on answer i low (Whole []) ≡ found_of low
   unfolding mask_of
-  on-end i low = ap foundOf (λ j. record {
+  on_end i low = ap found_of (λ j. record {
     inside = stack-empty low.inside j;
     boundary = stack-empty low.boundary j;
     refused = stack-empty low.refused j;

@@ -1,5 +1,5 @@
--- One step of the walk. Proved, in order: rest_of; step_past, step-passed, step-failed (what the step says in each
--- case); SheetAt, sheet-at, part_sound, part-five, end-at, RefusedAt, refused-at (and back); next-sheet, next-within.
+-- One step of the walk. Proved, in order: rest_of; step_past, step_passed, step_failed (what the step says in each
+-- case); SheetAt, sheet_at, part_sound, part_five, end_at, RefusedAt, refused_at (and back); next_sheet, next_within.
 use mathlib.Core.Path.{◌≡◌, refl, sym, ◌∙◌, ap}
 use mathlib.Core.Logic.{◌⊎◌, inl, inr}
 use mathlib.Core.Bool.{Bool, true, false, cond}
@@ -12,14 +12,14 @@ use lib.ListN.{length, take, drop, length-drop}
 use lib.Seq.{take_all}
 use Rattle.answer.specs.declared.Check.{Check}
 use Rattle.answer.specs.declared.Check.TheVariants.{Passed, Failed}
-use Rattle.fields.specs.Fields.{fiveFields, sheetFields, sheetEnd, fieldsCheck}
-use Rattle.fields.proofs.Laws.Fields.{end-within}
-use Rattle.fields.proofs.Laws.Front.{refuses-front}
+use Rattle.fields.specs.Fields.{five_fields, sheet_fields, sheet_end, fields_check}
+use Rattle.fields.proofs.Laws.Fields.{end_within}
+use Rattle.fields.proofs.Laws.Front.{refuses_front}
 use Rattle.fields.proofs.Laws.Same.{cut_out}
-use Rattle.sheet.proofs.Laws.Reads.{fields-five}
+use Rattle.sheet.proofs.Laws.Reads.{fields_five}
 use Rattle.book.specs.declared.step.Step.{Step}
 use Rattle.book.specs.declared.step.Step.TheVariants.{Sheet, Refused, End}
-use Rattle.book.specs.Step.{stepAfter, stepAt, next_at}
+use Rattle.book.specs.Step.{step_after, step_at, next_at}
 use Rattle.book.specs.Split.{part_of}
 
 -- The part of a slice from `at` on.
@@ -27,63 +27,63 @@ pub rest_of : (book : List ℕ) (at : ℕ) → take (length book - at) (drop at 
 rest_of book at = take_all (length book - at) (drop at book) (rw length-drop (omega arith))
 
 module _ (book : List ℕ) (at : ℕ) where
-  pub step_past : length book ≤ at → stepAt book at ≡ End
-  unfolding stepAt
+  pub step_past : length book ≤ at → step_at book at ≡ End
+  unfolding step_at
   step_past h = rw (le-ltb at (length book) h)
 
-  pub step-passed :
-      at < length book → sheetFields (drop at book) ≡ Passed → stepAt book at ≡ Sheet at (sheetEnd (drop at book))
-  unfolding stepAt
-  step-passed h e = rw (lt-ltb at (length book) h, e)
+  pub step_passed :
+      at < length book → sheet_fields (drop at book) ≡ Passed → step_at book at ≡ Sheet at (sheet_end (drop at book))
+  unfolding step_at
+  step_passed h e = rw (lt-ltb at (length book) h, e)
 
-  pub step-failed :
-      {n p : ℕ} → at < length book → sheetFields (drop at book) ≡ Failed n p → stepAt book at ≡ Refused n (at + p)
-  unfolding stepAt
-  step-failed h e = rw (lt-ltb at (length book) h, e)
+  pub step_failed :
+      {n p : ℕ} → at < length book → sheet_fields (drop at book) ≡ Failed n p → step_at book at ≡ Refused n (at + p)
+  unfolding step_at
+  step_failed h e = rw (lt-ltb at (length book) h, e)
 
 -- What is so where the step finds a sheet.
 pub record SheetAt (book : List ℕ) (at start size : ℕ) : Type 0 where
   pub starts : start ≡ at
-  pub ends : size ≡ sheetEnd (drop at book)
-  pub sound : sheetFields (drop at book) ≡ Passed
+  pub ends : size ≡ sheet_end (drop at book)
+  pub sound : sheet_fields (drop at book) ≡ Passed
   pub within : at + size ≤ length book
 
-same-sheet : {a b c d : ℕ} → Sheet a b ≡ Sheet c d → (a ≡ c) × (b ≡ d)
-same-sheet e = (cc, cc)
+same_sheet : {a b c d : ℕ} → Sheet a b ≡ Sheet c d → (a ≡ c) × (b ≡ d)
+same_sheet e = (cc, cc)
 
-pub sheet-at : {start size : ℕ} (book : List ℕ) (at : ℕ) → stepAt book at ≡ Sheet start size →
+pub sheet_at : {start size : ℕ} (book : List ℕ) (at : ℕ) → step_at book at ≡ Sheet start size →
     SheetAt book at start size
-unfolding stepAt
-sheet-at {start} {size} book at e = go (ltb at (length book)) (sheetFields (drop at book)) refl refl e
+unfolding step_at
+sheet_at {start} {size} book at e = go (ltb at (length book)) (sheet_fields (drop at book)) refl refl e
   where
-    go : (t : Bool) (c : Check) → ltb at (length book) ≡ t → sheetFields (drop at book) ≡ c →
-        cond t (stepAfter c at (sheetEnd (drop at book))) End ≡ Sheet start size → SheetAt book at start size
+    go : (t : Bool) (c : Check) → ltb at (length book) ≡ t → sheet_fields (drop at book) ≡ c →
+        cond t (step_after c at (sheet_end (drop at book))) End ≡ Sheet start size → SheetAt book at start size
     go true Passed h s e =
-        let z = same-sheet e in
+        let z = same_sheet e in
         let l = ltb-true at (length book) h in
-        let w = rw length-drop at (end-within (drop at book) s) in
+        let w = rw length-drop at (end_within (drop at book) s) in
         record { starts = sym z.0; ends = sym z.1; sound = s; within = omega arith }
     go true (Failed n p) h s e = let z : ◌≡◌ {A = ℕ} 0 1 = cc in absurd (omega arith)
     go false c h s e = let z : ◌≡◌ {A = ℕ} 0 1 = cc in absurd (omega arith)
 
 -- By itself it passes 20 to 24.
-pub part_sound : {start size : ℕ} (book : List ℕ) (at : ℕ) → stepAt book at ≡ Sheet start size →
-    fieldsCheck (part_of book at size) ≡ Passed
+pub part_sound : {start size : ℕ} (book : List ℕ) (at : ℕ) → step_at book at ≡ Sheet start size →
+    fields_check (part_of book at size) ≡ Passed
 part_sound book at e =
-    let s = sheet-at book at e in
-    ap (λ n. fieldsCheck (take n (drop at book))) s.ends ∙ cut_out (drop at book) s.sound
+    let s = sheet_at book at e in
+    ap (λ n. fields_check (take n (drop at book))) s.ends ∙ cut_out (drop at book) s.sound
 
-pub part-five : {start size : ℕ} (book : List ℕ) (at : ℕ) → stepAt book at ≡ Sheet start size →
-    fiveFields (part_of book at size) ≡ Passed
-part-five {start} {size} book at e = fields-five (part_of book at size) (part_sound book at e)
+pub part_five : {start size : ℕ} (book : List ℕ) (at : ℕ) → step_at book at ≡ Sheet start size →
+    five_fields (part_of book at size) ≡ Passed
+part_five {start} {size} book at e = fields_five (part_of book at size) (part_sound book at e)
 
 -- What is so where it finds none.
-pub end-at : (book : List ℕ) (at : ℕ) → stepAt book at ≡ End → length book ≤ at
-unfolding stepAt
-end-at book at e = go (ltb at (length book)) (sheetFields (drop at book)) refl e
+pub end_at : (book : List ℕ) (at : ℕ) → step_at book at ≡ End → length book ≤ at
+unfolding step_at
+end_at book at e = go (ltb at (length book)) (sheet_fields (drop at book)) refl e
   where
     go : (t : Bool) (c : Check) → ltb at (length book) ≡ t →
-        cond t (stepAfter c at (sheetEnd (drop at book))) End ≡ End → length book ≤ at
+        cond t (step_after c at (sheet_end (drop at book))) End ≡ End → length book ≤ at
     go true Passed h e = let z : ◌≡◌ {A = ℕ} 0 1 = cc in absurd (omega arith)
     go true (Failed n p) h e = let z : ◌≡◌ {A = ℕ} 0 1 = cc in absurd (omega arith)
     go false c h e = ltb-false at (length book) h
@@ -94,36 +94,36 @@ pub record RefusedAt (book : List ℕ) (at number place : ℕ) : Type 0 where
   pub within : place ≤ length book
   pub stays : next_at book at ≡ at
 
-same-refusal : {a b c d : ℕ} → Refused a b ≡ Refused c d → (a ≡ c) × (b ≡ d)
-same-refusal e = (cc, cc)
+same_refusal : {a b c d : ℕ} → Refused a b ≡ Refused c d → (a ≡ c) × (b ≡ d)
+same_refusal e = (cc, cc)
 
-pub refused-at : {number place : ℕ} (book : List ℕ) (at : ℕ) → stepAt book at ≡ Refused number place →
+pub refused_at : {number place : ℕ} (book : List ℕ) (at : ℕ) → step_at book at ≡ Refused number place →
     RefusedAt book at number place
-unfolding stepAt next_at
-refused-at {number} {place} book at e = go (ltb at (length book)) (sheetFields (drop at book)) refl refl e
+unfolding step_at next_at
+refused_at {number} {place} book at e = go (ltb at (length book)) (sheet_fields (drop at book)) refl refl e
   where
-    go : (t : Bool) (c : Check) → ltb at (length book) ≡ t → sheetFields (drop at book) ≡ c →
-        cond t (stepAfter c at (sheetEnd (drop at book))) End ≡ Refused number place → RefusedAt book at number place
+    go : (t : Bool) (c : Check) → ltb at (length book) ≡ t → sheet_fields (drop at book) ≡ c →
+        cond t (step_after c at (sheet_end (drop at book))) End ≡ Refused number place → RefusedAt book at number place
     go true Passed h s f = let z : ◌≡◌ {A = ℕ} 0 1 = cc in absurd (omega arith)
     go true (Failed n p) h s f =
-        let z = same-refusal f in
+        let z = same_refusal f in
         let l = ltb-true at (length book) h in
-        let r = (refuses-front (drop at book)).refusal n p s in
+        let r = (refuses_front (drop at book)).refusal n p s in
         let w = rw length-drop at r.2 in
         record { low = omega arith; high = omega arith; within = omega arith; stays = rw e (omega arith) }
     go false c h s f = let z : ◌≡◌ {A = ℕ} 0 1 = cc in absurd (omega arith)
 
-pub next-sheet : {start size : ℕ} (book : List ℕ) (at : ℕ) → stepAt book at ≡ Sheet start size →
+pub next_sheet : {start size : ℕ} (book : List ℕ) (at : ℕ) → step_at book at ≡ Sheet start size →
     next_at book at ≡ at + size
 unfolding next_at
-next-sheet book at e = rw e
+next_sheet book at e = rw e
 
 -- A walk that begins in the book stays in it, and each place fits a word.
-pub next-within : (book : List ℕ) (at : ℕ) → (next_at book at ≡ at) ⊎ (next_at book at ≤ length book)
+pub next_within : (book : List ℕ) (at : ℕ) → (next_at book at ≡ at) ⊎ (next_at book at ≤ length book)
 unfolding next_at
-next-within book at = go (stepAt book at) refl
+next_within book at = go (step_at book at) refl
   where
-    go : (s : Step) → stepAt book at ≡ s → (next_at book at ≡ at) ⊎ (next_at book at ≤ length book)
-    go (Sheet start size) e = inr (rw e (sheet-at book at e).within)
+    go : (s : Step) → step_at book at ≡ s → (next_at book at ≡ at) ⊎ (next_at book at ≤ length book)
+    go (Sheet start size) e = inr (rw e (sheet_at book at e).within)
     go (Refused n p) e = inl (rw e (omega arith))
     go End e = inl (rw e (omega arith))

@@ -1,5 +1,5 @@
--- The fields that differ, noted one by one. Proved, in order: differing-bound, noted-count (there is room), noted_more
--- (one number more), differing-snoc, noted_step (one field more).
+-- The fields that differ, noted one by one. Proved, in order: differing_bound, noted_count (there is room), noted_more
+-- (one number more), differing_snoc, noted_step (one field more).
 use mathlib.Core.Path.{◌≡◌, refl, sym, ap, ◌∙◌}
 use mathlib.Core.Bool.{Bool, true, false, cond}
 use mathlib.Core.List.{List, [], ◌∷◌, ◌++◌, append_assoc, append-nil}
@@ -8,38 +8,38 @@ use native.Mathlib.Omega.{arith}
 use lib.ListN.{length, set, replicate, length-append}
 use lib.Seq.{set_at}
 use Rattle.compare.specs.declared.differences.Differences.{Differences}
-use Rattle.compare.specs.Differences.{Field, fieldNumber, differing, filled, noted, pushed}
+use Rattle.compare.specs.Differences.{Field, field_number, differing, filled, noted, pushed}
 
 module _ (test : Field → Bool) where
-  pub differing-bound : (fs : List Field) → length (differing test fs) ≤ length fs
+  pub differing_bound : (fs : List Field) → length (differing test fs) ≤ length fs
   unfolding differing
-  differing-bound [] = omega arith
-  differing-bound (f ∷ fs) = go (test f) (differing-bound fs)
+  differing_bound [] = omega arith
+  differing_bound (f ∷ fs) = go (test f) (differing_bound fs)
     where
       go : (t : Bool) → length (differing test fs) ≤ length fs →
-          length (cond t (fieldNumber f ∷ differing test fs) (differing test fs)) ≤ suc (length fs)
+          length (cond t (field_number f ∷ differing test fs) (differing test fs)) ≤ suc (length fs)
       go true h = omega arith
       go false h = omega arith
 
-  pub noted-count : (fs : List Field) {d : Differences} → d ≡ noted (differing test fs) → d.count ≤ length fs
-  noted-count fs e = let n = ap (λ d. d.count) e in omega (arith, differing-bound fs)
+  pub noted_count : (fs : List Field) {d : Differences} → d ≡ noted (differing test fs) → d.count ≤ length fs
+  noted_count fs e = let n = ap (λ d. d.count) e in omega (arith, differing_bound fs)
 
   -- The field's number, if it differs.
   abbrev told : Field → List ℕ
-  told f = cond (test f) (fieldNumber f ∷ []) []
+  told f = cond (test f) (field_number f ∷ []) []
 
-  differing-snoc : (fs : List Field) (f : Field) → differing test (fs ++ (f ∷ [])) ≡ differing test fs ++ told f
+  differing_snoc : (fs : List Field) (f : Field) → differing test (fs ++ (f ∷ [])) ≡ differing test fs ++ told f
   unfolding differing
-  differing-snoc [] f = go (test f)
+  differing_snoc [] f = go (test f)
     where
-      go : (t : Bool) → cond t (fieldNumber f ∷ []) [] ≡ cond t (fieldNumber f ∷ []) []
+      go : (t : Bool) → cond t (field_number f ∷ []) [] ≡ cond t (field_number f ∷ []) []
       go t = refl
-  differing-snoc (g ∷ fs) f = go (test g) (differing-snoc fs f)
+  differing_snoc (g ∷ fs) f = go (test g) (differing_snoc fs f)
     where
       go : (t : Bool) → differing test (fs ++ (f ∷ [])) ≡ differing test fs ++ told f →
-          cond t (fieldNumber g ∷ differing test (fs ++ (f ∷ []))) (differing test (fs ++ (f ∷ [])))
-          ≡ cond t (fieldNumber g ∷ differing test fs) (differing test fs) ++ told f
-      go true e = ap (λ (l : List ℕ). fieldNumber g ∷ l) e
+          cond t (field_number g ∷ differing test (fs ++ (f ∷ []))) (differing test (fs ++ (f ∷ [])))
+          ≡ cond t (field_number g ∷ differing test fs) (differing test fs) ++ told f
+      go true e = ap (λ (l : List ℕ). field_number g ∷ l) e
       go false e = e
 
 -- ---- one number more
@@ -66,9 +66,9 @@ module _ (ns : List ℕ) (k : ℕ) (room : length ns < 7) where
 -- ---- one field more
 pub noted_step :
     (test : Field → Bool) (fs : List Field) (f : Field) {d r : Differences} {other : Bool} → length fs < 7 →
-    d ≡ noted (differing test fs) → other ≡ test f → r ≡ pushed d (fieldNumber f) other →
+    d ≡ noted (differing test fs) → other ≡ test f → r ≡ pushed d (field_number f) other →
     r ≡ noted (differing test (fs ++ (f ∷ [])))
 noted_step test fs f room before same e =
-    e ∙ (λ i. pushed (before i) (fieldNumber f) (same i))
-    ∙ noted_more (differing test fs) (fieldNumber f) (omega (arith, differing-bound test fs)) (test f)
-    ∙ ap noted (sym (differing-snoc test fs f))
+    e ∙ (λ i. pushed (before i) (field_number f) (same i))
+    ∙ noted_more (differing test fs) (field_number f) (omega (arith, differing_bound test fs)) (test f)
+    ∙ ap noted (sym (differing_snoc test fs f))

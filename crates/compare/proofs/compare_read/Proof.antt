@@ -2,12 +2,12 @@
 use mathlib.Core.Path.{◌≡◌, ap, ap₂, ◌∙◌}
 use native.Mathlib.Omega.{arith}
 use borrow.Author.Rules.{rules}
-use Rattle.sheet.specs.Sheet.{verticesOf}
-use Rattle.sheet.proofs.Laws.Reads.{sheet-five}
+use Rattle.sheet.specs.Sheet.{vertices_of}
+use Rattle.sheet.proofs.Laws.Reads.{sheet_five}
 use Rattle.compare.specs.Ring.{placed_of, way_of, place_of}
-use Rattle.compare.specs.Differences.{differs, allFields, differencesOf}
-use Rattle.compare.proofs.Laws.Noted.{noted-count}
-use Rattle.compare.proofs.Laws.Sheets.{ring-sound}
+use Rattle.compare.specs.Differences.{differs, all_fields, differences_of}
+use Rattle.compare.proofs.Laws.Noted.{noted_count}
+use Rattle.compare.proofs.Laws.Sheets.{ring_sound}
 use Rattle.compare.proofs.compare_read.Statement.{statement}
 use Rattle.compare.proofs.compare_read.Tie as tie
 
@@ -17,7 +17,7 @@ start c = c.before.before.before
 -- The rings that were compared are the sheets'.
 placed : (c : tie.After-place-ring) →
     let a = (start c.before.before).args in
-    c.place-ring.result ≡ placed_of (verticesOf a.left.now) (verticesOf a.right.now)
+    c.place-ring.result ≡ placed_of (vertices_of a.left.now) (vertices_of a.right.now)
 placed c =
     c.place-ring.ensures ∙ ap₂ placed_of c.before.before.ring_in.ensures c.before.ring-in2.ensures
 
@@ -25,18 +25,18 @@ ring-in-requires : tie.Need-ring-in-requires
 ring-in-requires c κs =
     let s = c.before.before in
     let e = s.requires.1.0 in
-    ((sheet-five _ s.requires.0.0, ap (λ r. r.name_len) e), ap (λ r. r.vertex_count) e)
+    ((sheet_five _ s.requires.0.0, ap (λ r. r.name_len) e), ap (λ r. r.vertex_count) e)
 
 ring-in-requires-2 : tie.Need-ring-in-requires-2
 ring-in-requires-2 c κs =
     let s = start c in
     let e = s.pre.1.1 in
-    ((sheet-five _ s.pre.0.1, ap (λ r. r.name_len) e), ap (λ r. r.vertex_count) e)
+    ((sheet_five _ s.pre.0.1, ap (λ r. r.name_len) e), ap (λ r. r.vertex_count) e)
 
 place-ring-requires : tie.Need-place-ring-requires
 place-ring-requires c κs =
     let s = start c.before in
-    (ring-sound _ s.pre.0.0 c.before.ring_in.ensures, ring-sound _ s.pre.0.1 c.ring-in2.ensures)
+    (ring_sound _ s.pre.0.0 c.before.ring_in.ensures, ring_sound _ s.pre.0.1 c.ring-in2.ensures)
 
 all-differences-requires : tie.Need-all-differences-requires
 all-differences-requires c κs = let s = start c.before.before in (s.pre.0, (s.pre.1, placed c))
@@ -45,11 +45,11 @@ place-requires : tie.Need-place-requires
 place-requires c κs = search rules
 
 cast-t11 : tie.Need-overflow-cast-t11
-unfolding differencesOf
+unfolding differences_of
 cast-t11 c =
     let d = c.before.before.before in
     let a = (start d.before.before.before).args in
-    let n = noted-count (differs a.left.now a.right.now) allFields d.all-differences.ensures in
+    let n = noted_count (differs a.left.now a.right.now) all_fields d.all-differences.ensures in
     record { fits = omega (arith, n) }
 
 way-requires : tie.Need-way-requires
@@ -69,8 +69,8 @@ returns c =
       fields = (e i).numbers;
     }
 
-pub compare-read-spec : {M : Type 1} → statement M
-compare-read-spec =
+pub compare_read_spec : {M : Type 1} → statement M
+compare_read_spec =
     tie.close
     (tie.spec
     ring-in-requires

@@ -1,6 +1,6 @@
--- Lists that are complete. Defined: AtEntry, Added. Proved, in order: covers-least, covers-map, covers-same, covers_at
--- (an entry), entries; tallied-of, walk_start, walk_step, walk-held (a walk over a complete list says what a walk over
--- all edges says), walk-add (the same of a loop's locals); kept-least, kept_same, kept_whole, kept-covers (what is kept
+-- Lists that are complete. Defined: AtEntry, Added. Proved, in order: covers_least, covers_map, covers_same, covers_at
+-- (an entry), entries; tallied_of, walk_start, walk_step, walk_held (a walk over a complete list says what a walk over
+-- all edges says), walk_add (the same of a loop's locals); kept_least, kept_same, kept_whole, kept_covers (what is kept
 -- of a complete list is complete).
 use mathlib.Core.Path.{◌≡◌, refl, sym, ◌∙◌, ap, subst}
 use mathlib.Core.Bool.{Bool, true}
@@ -16,12 +16,12 @@ use mir.Syntax.{w32}
 use mir.Val.{SFits, to_z, of_z}
 use mir.ValLaws.{to_z-of_z}
 use Rattle.sphere.specs.declared.point.Point.{Point}
-use Rattle.answer.specs.Search.{firstFrom, countFrom, sumFrom}
-use Rattle.polygon.specs.Verdict.{isOnBorder, isCrossed, way_of}
+use Rattle.answer.specs.Search.{first_from, count_from, sum_from}
+use Rattle.polygon.specs.Verdict.{is_on_border, is_crossed, way_of}
 use Rattle.search.specs.declared.walk.Tally.TheVariants.{Held, Crossed}
-use Rattle.search.specs.Walk.{tallyFrom}
-use Rattle.search.proofs.Laws.Tally.{Tallied, tallied-start, tallied-block, tallied-none, tallied-held, tallied-end}
-use Rattle.search.proofs.Laws.Tally.{crossed-parts, tally-all, test-way, tallied-few, sum_fits}
+use Rattle.search.specs.Walk.{tally_from}
+use Rattle.search.proofs.Laws.Tally.{Tallied, tallied_start, tallied_block, tallied_none, tallied_held, tallied_end}
+use Rattle.search.proofs.Laws.Tally.{crossed_parts, tally_all, test_way, tallied_few, sum_fits}
 use Rattle.azimuths.specs.Sectors.{Idle}
 use Rattle.cones.specs.Cones.{Covers, none, pass, keep, Walked}
 use Rattle.cones.specs.Lists.{Entries, Kept, begin, drop, copy}
@@ -32,23 +32,23 @@ pub record AtEntry (I : ℕ → Type 0) (l : List ℕ) (a n e : ℕ) : Type 0 wh
   pub below : get_or l e 0 < n
 
 module _ {I : ℕ → Type 0} {l : List ℕ} {a : ℕ} where
-  pub covers-least : {i b : ℕ} → Covers I l a i b → a ≤ b
-  covers-least none = omega arith
-  covers-least (pass c h) = covers-least c
-  covers-least (keep {i} {b} c h) = omega (arith, covers-least c)
+  pub covers_least : {i b : ℕ} → Covers I l a i b → a ≤ b
+  covers_least none = omega arith
+  covers_least (pass c h) = covers_least c
+  covers_least (keep {i} {b} c h) = omega (arith, covers_least c)
 
-  pub covers-map : {J : ℕ → Type 0} → ((j : ℕ) → I j → J j) → {i b : ℕ} → Covers I l a i b → Covers J l a i b
-  covers-map f none = none
-  covers-map f (pass {i} c h) = pass (covers-map f c) (f i h)
-  covers-map f (keep c h) = keep (covers-map f c) h
+  pub covers_map : {J : ℕ → Type 0} → ((j : ℕ) → I j → J j) → {i b : ℕ} → Covers I l a i b → Covers J l a i b
+  covers_map f none = none
+  covers_map f (pass {i} c h) = pass (covers_map f c) (f i h)
+  covers_map f (keep c h) = keep (covers_map f c) h
 
   -- only the entries from a on before b are read
-  pub covers-same : {m : List ℕ} {i b : ℕ} → ((x : ℕ) → a ≤ x → x < b → get_or m x 0 ≡ get_or l x 0) →
+  pub covers_same : {m : List ℕ} {i b : ℕ} → ((x : ℕ) → a ≤ x → x < b → get_or m x 0 ≡ get_or l x 0) →
       Covers I l a i b → Covers I m a i b
-  covers-same same none = none
-  covers-same same (pass c h) = pass (covers-same same c) h
-  covers-same same (keep {i} {b} c h) =
-      keep (covers-same (λ x k t. same x k (omega arith)) c) (same b (covers-least c) (omega arith) ∙ h)
+  covers_same same none = none
+  covers_same same (pass c h) = pass (covers_same same c) h
+  covers_same same (keep {i} {b} c h) =
+      keep (covers_same (λ x k t. same x k (omega arith)) c) (same b (covers_least c) (omega arith) ∙ h)
 
   pub covers_at : {n b : ℕ} → Covers I l a n b → (e : ℕ) → a ≤ e → e < b → AtEntry I l a n e
   covers_at none e h k = absurd (omega arith)
@@ -68,54 +68,54 @@ module _ {I : ℕ → Type 0} {l : List ℕ} {a : ℕ} where
 
 -- ---- a walk over it
 module _ {vs : List ℤ} {X P : Point} where
-  pub tallied-of : {i c : ℕ} {s : ℤ} → tallyFrom vs X P 0 i ≡ Crossed c s → Tallied vs X P 0 i c s
-  unfolding tallyFrom
-  tallied-of {i} e =
+  pub tallied_of : {i c : ℕ} {s : ℤ} → tally_from vs X P 0 i ≡ Crossed c s → Tallied vs X P 0 i c s
+  unfolding tally_from
+  tallied_of {i} e =
       let all : i - 0 ≡ i = omega arith in
-      let parts = crossed-parts (firstFrom (isOnBorder vs P) 0 i) (countFrom (isCrossed vs X P) 0 i)
-      (sumFrom (way_of vs X P) 0 i) e in
+      let parts = crossed_parts (first_from (is_on_border vs P) 0 i) (count_from (is_crossed vs X P) 0 i)
+      (sum_from (way_of vs X P) 0 i) e in
       record { none = rw all parts.none; count = rw all parts.count; total = rw all parts.total }
 
-  tally-of : {i c : ℕ} {s : ℤ} → Tallied vs X P 0 i c s → tallyFrom vs X P 0 i ≡ Crossed c s
-  tally-of {i} t = tally-all vs X P i (tallied-end t)
+  tally_of : {i c : ℕ} {s : ℤ} → Tallied vs X P 0 i c s → tally_from vs X P 0 i ≡ Crossed c s
+  tally_of {i} t = tally_all vs X P i (tallied_end t)
 
-  idle-tally : {i : ℕ} → Idle vs X P i → tallyFrom vs X P i 1 ≡ Crossed 0 (pos 0)
-  idle-tally {i} h = test-way vs X P i {way = pos 0} {c = 0} (rw (h.unheld, h.uncrossed)) refl
+  idle_tally : {i : ℕ} → Idle vs X P i → tally_from vs X P i 1 ≡ Crossed 0 (pos 0)
+  idle_tally {i} h = test_way vs X P i {way = pos 0} {c = 0} (rw (h.unheld, h.uncrossed)) refl
 
-  idle-tallied : {i c : ℕ} {s : ℤ} → Tallied vs X P 0 i c s → Idle vs X P i → Tallied vs X P 0 (suc i) c s
-  idle-tallied {i} t h = tallied-none 1 (omega arith) t (suc i) (omega arith) (idle-tally h)
+  idle_tallied : {i c : ℕ} {s : ℤ} → Tallied vs X P 0 i c s → Idle vs X P i → Tallied vs X P 0 (suc i) c s
+  idle_tallied {i} t h = tallied_none 1 (omega arith) t (suc i) (omega arith) (idle_tally h)
 
   module _ {l : List ℕ} where
     pub walk_start : Walked vs X P l 0 0 (pos 0)
-    walk_start = record { tally = λ i c. tally-of (go c refl) }
+    walk_start = record { tally = λ i c. tally_of (go c refl) }
       where
         go : {i b : ℕ} → Covers (Idle vs X P) l 0 i b → b ≡ 0 → Tallied vs X P 0 i 0 (pos 0)
-        go none e = tallied-start 0
-        go (pass c h) e = idle-tallied (go c e) h
+        go none e = tallied_start 0
+        go (pass c h) e = idle_tallied (go c e) h
         go (keep c h) e = absurd (omega arith)
 
     pub walk_step : {e c d : ℕ} {s t : ℤ} → Walked vs X P l e c s →
-        tallyFrom vs X P (get_or l e 0) 1 ≡ Crossed d t → Walked vs X P l (e + 1) (c + d) (s +ℤ t)
-    walk_step {e} {c} {d} {s} {t} w one = record { tally = λ i k. tally-of (go k refl) }
+        tally_from vs X P (get_or l e 0) 1 ≡ Crossed d t → Walked vs X P l (e + 1) (c + d) (s +ℤ t)
+    walk_step {e} {c} {d} {s} {t} w one = record { tally = λ i k. tally_of (go k refl) }
       where
         go : {i b : ℕ} → Covers (Idle vs X P) l 0 i b → b ≡ e + 1 → Tallied vs X P 0 i (c + d) (s +ℤ t)
         go none q = absurd (omega arith)
-        go (pass k p) q = idle-tallied (go k q) p
+        go (pass k p) q = idle_tallied (go k q) p
         go (keep {i} {b} k p) q =
             let same : b ≡ e = omega arith in
             let here : get_or l e 0 ≡ i = ap (λ x. get_or l x 0) (sym same) ∙ p in
             let on : i + 1 ≡ suc i = omega arith in
             subst (λ j. Tallied vs X P 0 j (c + d) (s +ℤ t)) on
-            (tallied-block 1 (omega arith)
-            (tallied-of (w.tally i (subst (λ x. Covers (Idle vs X P) l 0 i x) same k)))
-            (subst (λ j. tallyFrom vs X P j 1 ≡ Crossed d t) here one))
+            (tallied_block 1 (omega arith)
+            (tallied_of (w.tally i (subst (λ x. Covers (Idle vs X P) l 0 i x) same k)))
+            (subst (λ j. tally_from vs X P j 1 ≡ Crossed d t) here one))
 
-    pub walk-held : {e n b c : ℕ} {s : ℤ} {edge : ℕ} → e < b → Covers (Idle vs X P) l 0 n b →
-        Walked vs X P l e c s → tallyFrom vs X P (get_or l e 0) 1 ≡ Held edge → tallyFrom vs X P 0 n ≡ Held edge
-    walk-held {e} {n} k all w one =
+    pub walk_held : {e n b c : ℕ} {s : ℤ} {edge : ℕ} → e < b → Covers (Idle vs X P) l 0 n b →
+        Walked vs X P l e c s → tally_from vs X P (get_or l e 0) 1 ≡ Held edge → tally_from vs X P 0 n ≡ Held edge
+    walk_held {e} {n} k all w one =
         let r = covers_at all e (omega arith) k in
-        tally-all vs X P n
-        (tallied-held 1 (omega arith) (tallied-of (w.tally _ r.before)) n (omega (arith, r.below)) one)
+        tally_all vs X P n
+        (tallied_held 1 (omega arith) (tallied_of (w.tally _ r.before)) n (omega (arith, r.below)) one)
 
 -- Entry e is looked at, and its edge says `way`: the sums fit, and the walk goes on.
 pub record Added (vs : List ℤ) (X P : Point) (l : List ℕ) (e crossed : ℕ) (sum : ℤ) : Type 0 where
@@ -123,47 +123,47 @@ pub record Added (vs : List ℤ) (X P : Point) (l : List ℕ) (e crossed : ℕ) 
   pub fits : SFits w32 sum
   pub walked : Walked vs X P l (e + 1) crossed (to_z w32 (of_z w32 sum))
 
-pub walk-add : {vs : List ℤ} {X P : Point} {l : List ℕ} {n e crossed d : ℕ} (sum : ℕ) (way : ℤ) → n ≤ 4096 →
+pub walk_add : {vs : List ℤ} {X P : Point} {l : List ℕ} {n e crossed d : ℕ} (sum : ℕ) (way : ℤ) → n ≤ 4096 →
     SFits w32 way → AtEntry (Idle vs X P) l 0 n e → Walked vs X P l e crossed (to_z w32 sum) →
-    tallyFrom vs X P (get_or l e 0) 1 ≡ Crossed d way →
+    tally_from vs X P (get_or l e 0) 1 ≡ Crossed d way →
     Added vs X P l e (crossed + d) (to_z w32 sum +ℤ to_z w32 (of_z w32 way))
-walk-add {l = l} {e = e} sum way most fit at w one =
+walk_add {l = l} {e = e} sum way most fit at w one =
     let next = walk_step w one in
     let few : get_or l e 0 + 1 ≤ 4096 = omega (arith, at.below, most) in
-    let t = tallied-of {i = get_or l e 0 + 1} (next.tally _ (rw (add-one, add-one) (keep at.before refl))) in
+    let t = tallied_of {i = get_or l e 0 + 1} (next.tally _ (rw (add-one, add-one) (keep at.before refl))) in
     let fits = sum_fits sum way fit few t in
     record {
-      few = omega (arith, tallied-few t, few);
+      few = omega (arith, tallied_few t, few);
       fits = fits;
       walked = rw (to_z-of_z w32 _ fits, to_z-of_z w32 way fit) next;
     }
 
 -- ---- what is kept of a list
 module _ {test : ℕ → Bool} {l m : List ℕ} {a c : ℕ} where
-  pub kept-least : {e k : ℕ} → Kept test l m a c e k → (a ≤ e) × (c ≤ k)
-  kept-least begin = (omega arith, omega arith)
-  kept-least (drop {e} {k} s h) = let r = kept-least s in (omega arith, omega arith)
-  kept-least (copy {e} {k} s h) = let r = kept-least s in (omega arith, omega arith)
+  pub kept_least : {e k : ℕ} → Kept test l m a c e k → (a ≤ e) × (c ≤ k)
+  kept_least begin = (omega arith, omega arith)
+  kept_least (drop {e} {k} s h) = let r = kept_least s in (omega arith, omega arith)
+  kept_least (copy {e} {k} s h) = let r = kept_least s in (omega arith, omega arith)
 
   pub kept_same : {q : List ℕ} {e k : ℕ} → ((x : ℕ) → c ≤ x → x < k → get_or q x 0 ≡ get_or m x 0) →
       Kept test l m a c e k → Kept test l q a c e k
   kept_same same begin = begin
   kept_same same (drop s h) = drop (kept_same same s) h
   kept_same same (copy {e} {k} s h) =
-      copy (kept_same (λ x p t. same x p (omega arith)) s) (same k (kept-least s).1 (omega arith) ∙ h)
+      copy (kept_same (λ x p t. same x p (omega arith)) s) (same k (kept_least s).1 (omega arith) ∙ h)
 
   module _ {I J : ℕ → Type 0} (weaker : (j : ℕ) → I j → J j) (n : ℕ) (lost : (j : ℕ) → j < n → test j ≡ true → J j)
     where
-      pub kept-covers : {i e k : ℕ} → i ≤ n → Kept test l m a c e k → Covers I l a i e → Covers J m c i k
-      kept-covers h s all = go s all h refl
+      pub kept_covers : {i e k : ℕ} → i ≤ n → Kept test l m a c e k → Covers I l a i e → Covers J m c i k
+      kept_covers h s all = go s all h refl
         where
           -- by the entries first, and then by the edges
           go : {i b e k : ℕ} → Kept test l m a c e k → Covers I l a i b → i ≤ n → b ≡ e → Covers J m c i k
           go s (pass {i} all p) h q = pass (go s all (omega arith) q) (weaker i p)
           go begin none h q = none
-          go begin (keep {i} {b} all p) h q = absurd (omega (arith, covers-least all))
-          go (drop {e} s t) none h q = absurd (omega (arith, (kept-least s).0))
-          go (copy {e} s t) none h q = absurd (omega (arith, (kept-least s).0))
+          go begin (keep {i} {b} all p) h q = absurd (omega (arith, covers_least all))
+          go (drop {e} s t) none h q = absurd (omega (arith, (kept_least s).0))
+          go (copy {e} s t) none h q = absurd (omega (arith, (kept_least s).0))
           go (drop {e} s t) (keep {i} {b} all p) h q =
               let same : b ≡ e = omega arith in
               pass (go s all (omega arith) same)

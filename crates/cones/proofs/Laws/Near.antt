@@ -1,5 +1,5 @@
 -- A loop that gathers the entries of a list that are kept. Defined: Gathering (before entry e). Proved, in order:
--- gather-start, gather-drop, gather-copy, gather-end.
+-- gather_start, gather_drop, gather_copy, gather_end.
 use mathlib.Core.Path.{◌≡◌, refl, ◌∙◌, subst}
 use mathlib.Core.Bool.{Bool, true}
 use mathlib.Core.List.{List}
@@ -19,8 +19,8 @@ pub record Gathering (test : ℕ → Bool) (l k m : List ℕ) (from to end e : �
   pub few : end ≤ e - from
   pub kept : Kept test l m from 0 e end
 
-pub gather-start : {test : ℕ → Bool} {l k : List ℕ} {from to : ℕ} → from ≤ to → Gathering test l k k from to 0 from
-gather-start h = record { room = refl; after = omega arith; before = h; few = omega arith; kept = begin }
+pub gather_start : {test : ℕ → Bool} {l k : List ℕ} {from to : ℕ} → from ≤ to → Gathering test l k k from to 0 from
+gather_start h = record { room = refl; after = omega arith; before = h; few = omega arith; kept = begin }
 
 -- The entry at hand, written behind what is kept: it is not kept, or it is.
 module _ {test : ℕ → Bool} {l k m : List ℕ} {from to end e : ℕ} (s : Gathering test l k m from to end e) (h : e < to)
@@ -28,8 +28,8 @@ module _ {test : ℕ → Bool} {l k m : List ℕ} {from to end e : ℕ} (s : Gat
     still : Kept test l (set m end (get_or l e 0)) from 0 e end
     still = kept_same (λ x p q. get_or-set_other m end x (get_or l e 0) 0 (λ z. omega arith)) s.kept
 
-    pub gather-drop : test (get_or l e 0) ≡ true → Gathering test l k (set m end (get_or l e 0)) from to end (e + 1)
-    gather-drop t = record {
+    pub gather_drop : test (get_or l e 0) ≡ true → Gathering test l k (set m end (get_or l e 0)) from to end (e + 1)
+    gather_drop t = record {
       room = length-set m end (get_or l e 0) ∙ s.room;
       after = omega (arith, s.after);
       before = omega arith;
@@ -37,8 +37,8 @@ module _ {test : ℕ → Bool} {l k m : List ℕ} {from to end e : ℕ} (s : Gat
       kept = rw (add-one e) (drop still t);
     }
 
-    pub gather-copy : end < length m → Gathering test l k (set m end (get_or l e 0)) from to (end + 1) (e + 1)
-    gather-copy r = record {
+    pub gather_copy : end < length m → Gathering test l k (set m end (get_or l e 0)) from to (end + 1) (e + 1)
+    gather_copy r = record {
       room = length-set m end (get_or l e 0) ∙ s.room;
       after = omega (arith, s.after);
       before = omega arith;
@@ -46,9 +46,9 @@ module _ {test : ℕ → Bool} {l k m : List ℕ} {from to end e : ℕ} (s : Gat
       kept = rw (add-one e, add-one end) (copy still (get_or-set_same m end (get_or l e 0) 0 r));
     }
 
-pub gather-end : {test : ℕ → Bool} {l k m : List ℕ} {from to end e : ℕ} → Gathering test l k m from to end e →
+pub gather_end : {test : ℕ → Bool} {l k m : List ℕ} {from to end e : ℕ} → Gathering test l k m from to end e →
     to ≤ e → to - from ≤ length k → Gathered test l m from to end
-gather-end {test} {l} {k} {m} {from} {to} {end} {e} s h r =
+gather_end {test} {l} {k} {m} {from} {to} {end} {e} s h r =
     let all : e ≡ to = omega (arith, s.before) in
     record {
       within = omega (arith, s.few, s.room, all);

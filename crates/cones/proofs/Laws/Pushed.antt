@@ -1,4 +1,4 @@
--- One node more in the table. Proved, in order: copied-covers, pushed.
+-- One node more in the table. Proved, in order: copied_covers, pushed.
 use mathlib.Core.Path.{◌≡◌, sym, ◌∙◌, subst}
 use mathlib.Core.Bool.{true≢false}
 use mathlib.Core.List.{List}
@@ -11,12 +11,12 @@ use lib.Seq.{get_or-set_same, get_or-set_other}
 use Rattle.azimuths.specs.Sectors.{MissedIn}
 use Rattle.cones.specs.Cones.{Covers}
 use Rattle.cones.specs.Table.{Node, Indexed, Room, Copied}
-use Rattle.cones.proofs.Laws.Covers.{covers-same, kept-covers}
+use Rattle.cones.proofs.Laws.Covers.{covers_same, kept_covers}
 
-pub copied-covers : {I : ℕ → Type 0} {s l m : List ℕ} {from to at : ℕ} (n : ℕ) → Copied s l m from to at →
+pub copied_covers : {I : ℕ → Type 0} {s l m : List ℕ} {from to at : ℕ} (n : ℕ) → Copied s l m from to at →
     Covers I s from n to → Covers I m at n (at + (to - from))
-copied-covers {I} n c all =
-    kept-covers {I = I} {J = I} (λ j h. h) n (λ j h e. absurd (true≢false (sym e))) (omega arith) c.kept all
+copied_covers {I} n c all =
+    kept_covers {I = I} {J = I} (λ j h. h) n (λ j h e. absurd (true≢false (sym e))) (omega arith) c.kept all
 
 -- ---- four numbers, from entry i on
 module _ (l : List ℕ) (i a b c d : ℕ) where
@@ -32,27 +32,27 @@ module _ (l : List ℕ) (i a b c d : ℕ) where
   abbrev row : List ℕ
   row = set three (i + 3) d
 
-  row-long : length row ≡ length l
-  row-long = simp length-set
+  row_long : length row ≡ length l
+  row_long = simp length-set
 
-  three-before : (x : ℕ) → x < i + 2 → get_or row x 0 ≡ get_or two x 0
-  three-before x h =
+  three_before : (x : ℕ) → x < i + 2 → get_or row x 0 ≡ get_or two x 0
+  three_before x h =
       get_or-set_other three (i + 3) x d 0 (λ e. omega arith) ∙ get_or-set_other two (i + 2) x c 0 (λ e. omega arith)
 
   row_before : (x : ℕ) → x < i → get_or row x 0 ≡ get_or l x 0
   row_before x h =
-      three-before x (omega arith) ∙ get_or-set_other one (i + 1) x b 0 (λ e. omega arith)
+      three_before x (omega arith) ∙ get_or-set_other one (i + 1) x b 0 (λ e. omega arith)
       ∙ get_or-set_other l i x a 0 (λ e. omega arith)
 
   module _ (room : i + 4 ≤ length l) where
     first : get_or row i 0 ≡ a
     first =
-        three-before i (omega arith) ∙ get_or-set_other one (i + 1) i b 0 (λ e. omega arith)
+        three_before i (omega arith) ∙ get_or-set_other one (i + 1) i b 0 (λ e. omega arith)
         ∙ get_or-set_same l i a 0 (omega arith)
 
     second : get_or row (i + 1) 0 ≡ b
     second =
-        three-before (i + 1) (omega arith) ∙ get_or-set_same one (i + 1) b 0 (simp length-set (omega arith))
+        three_before (i + 1) (omega arith) ∙ get_or-set_same one (i + 1) b 0 (simp length-set (omega arith))
 
     third : get_or row (i + 2) 0 ≡ c
     third =
@@ -87,8 +87,8 @@ module _ (n : ℕ) (sectors table list : List ℕ) (nodes top more : ℕ) (t : I
               same (k * 4 + 3) (omega arith),
             ) (record {
               some = o.some;
-              within = omega (arith, e, long, t.list-room);
-              covers = covers-same (λ x a b. before x (omega (arith, e, b))) o.covers;
+              within = omega (arith, e, long, t.list_room);
+              covers = covers_same (λ x a b. before x (omega (arith, e, b))) o.covers;
             });
       }
 
@@ -97,23 +97,23 @@ module _ (n : ℕ) (sectors table list : List ℕ) (nodes top more : ℕ) (t : I
   new = record {
     complete =
         rw (
-          first table (nodes * 4) lo last top (top + more) r.table-room,
-          second table (nodes * 4) lo last top (top + more) r.table-room,
-          third table (nodes * 4) lo last top (top + more) r.table-room,
-          fourth table (nodes * 4) lo last top (top + more) r.table-room,
-        ) (record { some = omega arith; within = omega (arith, long, r.list-room); covers = all });
+          first table (nodes * 4) lo last top (top + more) r.table_room,
+          second table (nodes * 4) lo last top (top + more) r.table_room,
+          third table (nodes * 4) lo last top (top + more) r.table_room,
+          fourth table (nodes * 4) lo last top (top + more) r.table_room,
+        ) (record { some = omega arith; within = omega (arith, long, r.list_room); covers = all });
   }
 
-  here-or-before : (P : ℕ → Type 0) (k : ℕ) → ((j : ℕ) → j < nodes → P j) → P nodes → k < nodes + 1 → P k
-  here-or-before P k f p h =
+  here_or_before : (P : ℕ → Type 0) (k : ℕ) → ((j : ℕ) → j < nodes → P j) → P nodes → k < nodes + 1 → P k
+  here_or_before P k f p h =
       ⊎_elim (λ e. subst P (sym e) p) (λ l. f k l) (eq-or-lt_of_le {n = k} {m = nodes} (omega arith))
 
   pub pushed : Indexed n sectors table' m (nodes + 1) (top + more)
   pushed = record {
-    table-room = omega (arith, row-long table (nodes * 4) lo last top (top + more), r.table-room);
-    list-room = omega (arith, long, r.list-room);
-    ends = λ k h. here-or-before (λ k. get_or table' (k * 4 + 3) 0 ≤ top + more) k
+    table_room = omega (arith, row_long table (nodes * 4) lo last top (top + more), r.table_room);
+    list_room = omega (arith, long, r.list_room);
+    ends = λ k h. here_or_before (λ k. get_or table' (k * 4 + 3) 0 ≤ top + more) k
         (λ j l. rw (same (j * 4 + 3) (omega arith)) (omega (arith, t.ends j l)))
-        (rw (fourth table (nodes * 4) lo last top (top + more) r.table-room) (omega arith)) h;
-    each = λ k h. here-or-before (λ k. Node n sectors table' m k) k old new h;
+        (rw (fourth table (nodes * 4) lo last top (top + more) r.table_room) (omega arith)) h;
+    each = λ k h. here_or_before (λ k. Node n sectors table' m k) k old new h;
   }

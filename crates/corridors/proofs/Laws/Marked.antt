@@ -1,4 +1,4 @@
--- Marks of edges, as a loop goes. Proved, in order: marked-none, marked-one, marked_append (some edges, and those after
+-- Marks of edges, as a loop goes. Proved, in order: marked_none, marked_one, marked_append (some edges, and those after
 -- them).
 use mathlib.Core.Path.{◌≡◌, refl, ◌∙◌, ap}
 use mathlib.Core.Bool.{Bool, true, false, cond}
@@ -11,18 +11,18 @@ use lib.ListN.{length, get_or}
 use Rattle.corridors.specs.Marked.{MarkedAt, Marked}
 
 module _ {test : ℕ → Bool} where
-  pub marked-none : {i to : ℕ} {marks : List ℕ} → ((j : ℕ) → i ≤ j → j < to → test j ≡ false) →
+  pub marked_none : {i to : ℕ} {marks : List ℕ} → ((j : ℕ) → i ≤ j → j < to → test j ≡ false) →
       Marked test i to marks marks
-  marked-none none = record {
+  marked_none none = record {
     room = refl;
     before = λ j h. refl;
     each = λ j h l m. rw (none j h l);
     beyond = λ j h. refl;
   }
 
-  pub marked-one : {i : ℕ} {marks after : List ℕ} → test i ≡ true → MarkedAt i marks after →
+  pub marked_one : {i : ℕ} {marks after : List ℕ} → test i ≡ true → MarkedAt i marks after →
       Marked test i (i + 1) marks after
-  marked-one {i} {marks} {after} e m = record {
+  marked_one {i} {marks} {after} e m = record {
     room = m.room;
     before = λ j h. m.other j (λ same. omega arith);
     each = λ j h l r. let same : j ≡ i = omega (arith, h, l) in

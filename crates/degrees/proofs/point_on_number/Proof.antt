@@ -1,26 +1,26 @@
 -- `point_on_number` meets its contract.
 use mathlib.Core.Path.{◌≡◌, ap, ◌∙◌}
 use borrow.Author.Rules.{rules}
-use Rattle.angles.specs.Point.{pointNumber}
+use Rattle.angles.specs.Point.{point_number}
 use Rattle.angles.proofs.Numbers.{handed}
-use Rattle.degrees.specs.Points.{pointOnNumber}
-use Rattle.degrees.proofs.Laws.{no-grid, some-grid}
+use Rattle.degrees.specs.Points.{point_on_number}
+use Rattle.degrees.proofs.Laws.{no_grid, some_grid}
 use Rattle.degrees.proofs.point_on_number.Statement.{statement}
 use Rattle.degrees.proofs.point_on_number.Tie as tie
 
 returns : tie.Need-returns
-unfolding pointOnNumber
-returns c = rw (no-grid _ c.if1.true)
+unfolding point_on_number
+returns c = rw (no_grid _ c.if1.true)
 
 point-number-requires : tie.Need-point-number-requires
 point-number-requires c κs = search rules
 
 returns-2 : tie.Need-returns-2
-unfolding pointOnNumber
+unfolding point_on_number
 returns-2 c =
     let f = c.before.before.ranges in
-    rw (some-grid _ c.before.if1.false)
-    (c.point-number.ensures ∙ ap pointNumber (handed _ _ f.lon f.lat))
+    rw (some_grid _ c.before.if1.false)
+    (c.point-number.ensures ∙ ap point_number (handed _ _ f.lon f.lat))
 
-pub point-on-number-spec : {M : Type 1} → statement M
-point-on-number-spec = tie.close (tie.spec returns point-number-requires returns-2)
+pub point_on_number_spec : {M : Type 1} → statement M
+point_on_number_spec = tie.close (tie.spec returns point-number-requires returns-2)

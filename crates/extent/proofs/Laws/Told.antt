@@ -1,5 +1,5 @@
--- What is told of a sheet. Proved, in order: gridded-of (the vertices of an accepted polygon are on the fine grid),
--- behind-plane, failed-passed, refused-told, far-refused, far_none, far-found.
+-- What is told of a sheet. Proved, in order: gridded_of (the vertices of an accepted polygon are on the fine grid),
+-- behind_plane, failed_passed, refused_told, far_refused, far_none, far_found.
 use mathlib.Core.Path.{◌≡◌, refl, sym, ◌∙◌, ap}
 use mathlib.Core.Bool.{true, false, false≢true}
 use mathlib.Core.List.{List}
@@ -8,51 +8,51 @@ use native.Mathlib.Omega.{arith}
 use lib.IntN.{ℤ}
 use Rattle.sphere.specs.declared.point.Grid.{Grid}
 use Rattle.sphere.specs.declared.point.Point.{Point}
-use Rattle.sphere.specs.Point.{fine, limitOf}
+use Rattle.sphere.specs.Point.{fine, limit_of}
 use Rattle.answer.specs.declared.Answer.{Answer}
 use Rattle.answer.specs.declared.Check.{Check}
 use Rattle.answer.specs.declared.Check.TheVariants.{Passed, Failed}
 use Rattle.answer.specs.Answer.{number_of}
-use Rattle.polygon.specs.Vertices.{vertexCount}
+use Rattle.polygon.specs.Vertices.{vertices_count}
 use Rattle.polygon.specs.Accepted.{Gridded}
 use Rattle.polygon.specs.Verdict.{answer_of}
-use Rattle.polygon.specs.Pair.{judgeFrom, optionalCheck}
-use Rattle.polygon.proofs.Laws.Checks.{accept-passed, gridded-fine}
-use Rattle.polygon.proofs.Laws.Pair.{optional-first}
-use Rattle.separation.specs.Separation.{awayOf}
+use Rattle.polygon.specs.Pair.{judge_from, optional_check}
+use Rattle.polygon.proofs.Laws.Checks.{accept_passed, gridded_fine}
+use Rattle.polygon.proofs.Laws.Pair.{optional_first}
+use Rattle.separation.specs.Separation.{away_of}
 use Rattle.separation.specs.Planes.{Behind}
-use Rattle.fields.specs.Fields.{gridOf}
-use Rattle.sheet.specs.Sheet.{known_of, verticesOf, second_of, sheetCheck}
-use Rattle.zone.specs.Judge.{sheetAnswerOf}
+use Rattle.fields.specs.Fields.{grid_of}
+use Rattle.sheet.specs.Sheet.{known_of, vertices_of, second_of, sheet_check}
+use Rattle.zone.specs.Judge.{sheet_answer_of}
 use Rattle.extent.specs.declared.measure.Extent.{Extent}
-use Rattle.extent.specs.Extent.{Plane, farOf, FarNumber, Told}
+use Rattle.extent.specs.Extent.{Plane, far_of, FarNumber, Told}
 
-pub gridded-of : (g : Grid) (vs : List ℤ) (X Y : Point) → optionalCheck (limitOf g) vs X Y ≡ Passed →
-    Gridded fine vs × (3 ≤ vertexCount vs)
-gridded-of g vs X Y x =
-    let a = accept-passed (optional-first (limitOf g) vs X Y x) in (gridded-fine g a.gridded, a.listed.least)
+pub gridded_of : (g : Grid) (vs : List ℤ) (X Y : Point) → optional_check (limit_of g) vs X Y ≡ Passed →
+    Gridded fine vs × (3 ≤ vertices_count vs)
+gridded_of g vs X Y x =
+    let a = accept_passed (optional_first (limit_of g) vs X Y x) in (gridded_fine g a.gridded, a.listed.least)
 
-pub behind-plane : {vs : List ℤ} {P : Point} → Behind vs P → Plane vs
-behind-plane b = record { normal = b.normal; ahead = b.separates.ahead }
+pub behind_plane : {vs : List ℤ} {P : Point} → Behind vs P → Plane vs
+behind_plane b = record { normal = b.normal; ahead = b.separates.ahead }
 
-pub failed-passed : {n p : ℕ} {A : Type 0} → Failed n p ≡ Passed → A
-failed-passed e = let z : ◌≡◌ {A = ℕ} 0 1 = cc in absurd (omega arith)
+pub failed_passed : {n p : ℕ} {A : Type 0} → Failed n p ≡ Passed → A
+failed_passed e = let z : ◌≡◌ {A = ℕ} 0 1 = cc in absurd (omega arith)
 
-pub refused-told : (b : List ℕ) (e : Extent) {n p : ℕ} → sheetCheck b ≡ Failed n p → e.check ≡ Failed n p → Told b e
-refused-told b e h k = record { checked = k ∙ sym h; measured = λ ok. failed-passed (sym h ∙ ok) }
+pub refused_told : (b : List ℕ) (e : Extent) {n p : ℕ} → sheet_check b ≡ Failed n p → e.check ≡ Failed n p → Told b e
+refused_told b e h k = record { checked = k ∙ sym h; measured = λ ok. failed_passed (sym h ∙ ok) }
 
 -- ---- the far side
-pub far-refused : (b : List ℕ) {n p : ℕ} → sheetCheck b ≡ Failed n p → FarNumber b n
-unfolding farOf
-far-refused b h = record { found = false; plane = λ e. absurd (false≢true e); same = rw h }
+pub far_refused : (b : List ℕ) {n p : ℕ} → sheet_check b ≡ Failed n p → FarNumber b n
+unfolding far_of
+far_refused b h = record { found = false; plane = λ e. absurd (false≢true e); same = rw h }
 
-pub far_none : (b : List ℕ) → sheetCheck b ≡ Passed → FarNumber b 0
-unfolding farOf
+pub far_none : (b : List ℕ) → sheet_check b ≡ Passed → FarNumber b 0
+unfolding far_of
 far_none b h = record { found = false; plane = λ e. absurd (false≢true e); same = rw h }
 
-pub far-found : (b : List ℕ) (e : Extent) {r : ℕ} → sheetCheck b ≡ Passed → Told b e → e.found ≡ true →
+pub far_found : (b : List ℕ) (e : Extent) {r : ℕ} → sheet_check b ≡ Passed → Told b e → e.found ≡ true →
     r ≡ number_of e.far → FarNumber b r
-unfolding farOf sheetAnswerOf
-far-found b e h t f k =
+unfolding far_of sheet_answer_of
+far_found b e h t f k =
     let m = t.measured h in
     record { found = true; plane = λ _ _. m.plane f; same = k ∙ ap number_of m.far ∙ rw h }

@@ -1,5 +1,5 @@
--- How a feed ends. Defined: FeedPassed, Ends. Proved, in order: size-passed, feed-passed (what its checks establish);
--- feed-refused, feed-done (its answer and its result buffer on each way).
+-- How a feed ends. Defined: FeedPassed, Ends. Proved, in order: size_passed, feed_passed (what its checks establish);
+-- feed_refused, feed_done (its answer and its result buffer on each way).
 use mathlib.Core.Path.{◌≡◌}
 use mathlib.Core.Bool.{not}
 use mathlib.Core.List.{List, [], ◌∷◌}
@@ -10,53 +10,53 @@ use lib.IntN.{ℤ}
 use lib.ListN.{length}
 use Rattle.sphere.specs.declared.point.Grid.{Grid}
 use Rattle.sphere.specs.declared.point.GridPoint.{GridPoint}
-use Rattle.sphere.specs.Point.{limitOf}
+use Rattle.sphere.specs.Point.{limit_of}
 use Rattle.answer.specs.declared.Answer.{Answer}
 use Rattle.answer.specs.declared.Answer.TheVariants.{Done, Refused}
 use Rattle.answer.specs.declared.Check.TheVariants.{Passed, Failed}
-use Rattle.answer.specs.Chain.{◌then◌, failsHere, failsIf}
-use Rattle.polygon.specs.Checks.{acceptCheck}
-use Rattle.polygon.specs.Grids.{isMixed, gridCheck}
-use Rattle.answer.proofs.Laws.Chain.{here-passed, then-passed}
-use Rattle.answer.specs.Buffer.{bufferAfter}
-use Rattle.feed.specs.Feed.{roomNeeded, sizeCheck, feedCheck, feedOf, feedBytes, resultsAfter}
-use Rattle.polygon.specs.Pair.{noSecond}
+use Rattle.answer.specs.Chain.{◌then◌, fails_here, fails_if}
+use Rattle.polygon.specs.Checks.{accept_check}
+use Rattle.polygon.specs.Grids.{is_mixed, grid_check}
+use Rattle.answer.proofs.Laws.Chain.{here_passed, then_passed}
+use Rattle.answer.specs.Buffer.{buffer_after}
+use Rattle.feed.specs.Feed.{room_needed, size_check, feed_check, feed_of, feed_bytes, results_after}
+use Rattle.polygon.specs.Pair.{no_second}
 
 -- ---- what the checks of a feed establish
-pub size-passed : (queries : List ℕ) (room : ℕ) → sizeCheck queries room ≡ Passed → roomNeeded queries ≤ room
-unfolding sizeCheck
-size-passed queries room e =
-    let n = roomNeeded queries in
-    let whole = failsIf 26 (not (eqb (length queries % 12) 0)) in
-    let fits = (then-passed whole (failsHere 27 n (ltb room n)) e).1 in
-    ltb-false room n (here-passed 27 n (ltb room n) fits)
+pub size_passed : (queries : List ℕ) (room : ℕ) → size_check queries room ≡ Passed → room_needed queries ≤ room
+unfolding size_check
+size_passed queries room e =
+    let n = room_needed queries in
+    let whole = fails_if 26 (not (eqb (length queries % 12) 0)) in
+    let fits = (then_passed whole (fails_here 27 n (ltb room n)) e).1 in
+    ltb-false room n (here_passed 27 n (ltb room n) fits)
 
 module _ (g : Grid) (vs : List ℤ) (X : GridPoint) (h : Grid) (queries : List ℕ) where
   pub record FeedPassed (room : ℕ) : Type 0 where
-    pub accepted : acceptCheck (limitOf g) vs X.point ≡ Passed
-    pub unmixed : gridCheck vs (isMixed g (X.grid ∷ h ∷ [])) ≡ Passed
-    pub enough : roomNeeded queries ≤ room
+    pub accepted : accept_check (limit_of g) vs X.point ≡ Passed
+    pub unmixed : grid_check vs (is_mixed g (X.grid ∷ h ∷ [])) ≡ Passed
+    pub enough : room_needed queries ≤ room
 
-  pub feed-passed : (room : ℕ) → feedCheck g vs X h queries room ≡ Passed → FeedPassed room
-  unfolding feedCheck
-  feed-passed room e =
-      let mixed = gridCheck vs (isMixed g (X.grid ∷ h ∷ [])) in
-      let accept = acceptCheck (limitOf g) vs X.point in
-      let two = then-passed (sizeCheck queries room) (mixed then accept) e in
-      let more = then-passed mixed accept two.1 in
-      record { accepted = more.1; unmixed = more.0; enough = size-passed queries room two.0 }
+  pub feed_passed : (room : ℕ) → feed_check g vs X h queries room ≡ Passed → FeedPassed room
+  unfolding feed_check
+  feed_passed room e =
+      let mixed = grid_check vs (is_mixed g (X.grid ∷ h ∷ [])) in
+      let accept = accept_check (limit_of g) vs X.point in
+      let two = then_passed (size_check queries room) (mixed then accept) e in
+      let more = then_passed mixed accept two.1 in
+      record { accepted = more.1; unmixed = more.0; enough = size_passed queries room two.0 }
 
   -- ---- the two ways that a feed ends
   module _ (buffer : List ℕ) where
     pub record Ends (answer : Answer) (left : List ℕ) : Type 0 where
-      pub answered : feedOf g vs X h queries (length buffer) ≡ answer
-      pub filled : resultsAfter g vs X h queries buffer ≡ left
+      pub answered : feed_of g vs X h queries (length buffer) ≡ answer
+      pub filled : results_after g vs X h queries buffer ≡ left
 
-    pub feed-refused : {n p : ℕ} → feedCheck g vs X h queries (length buffer) ≡ Failed n p → Ends (Refused n p) buffer
-    unfolding feedOf resultsAfter
-    feed-refused e = record { answered = rw e; filled = rw e }
+    pub feed_refused : {n p : ℕ} → feed_check g vs X h queries (length buffer) ≡ Failed n p → Ends (Refused n p) buffer
+    unfolding feed_of results_after
+    feed_refused e = record { answered = rw e; filled = rw e }
 
-    pub feed-done : feedCheck g vs X h queries (length buffer) ≡ Passed →
-        Ends (Done 0) (bufferAfter Passed (feedBytes (limitOf g) vs X.point noSecond queries) buffer)
-    unfolding feedOf resultsAfter
-    feed-done e = record { answered = rw e; filled = rw e }
+    pub feed_done : feed_check g vs X h queries (length buffer) ≡ Passed →
+        Ends (Done 0) (buffer_after Passed (feed_bytes (limit_of g) vs X.point no_second queries) buffer)
+    unfolding feed_of results_after
+    feed_done e = record { answered = rw e; filled = rw e }

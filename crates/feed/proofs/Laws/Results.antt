@@ -1,5 +1,5 @@
--- The bytes of results, stored and read. Proved, in order: resultBytes-length, result-stored (three words);
--- word-behind, result-split, result-read (its words).
+-- The bytes of results, stored and read. Proved, in order: result_bytes-length, result_stored (three words);
+-- word_behind, result_split, result_read (its words).
 use mathlib.Core.Path.{◌≡◌, refl, sym, ap, ◌∙◌}
 use mathlib.Core.List.{List, ◌++◌, append_assoc}
 use Prim.Native.Nat.{ℕ, ◌+◌}
@@ -8,24 +8,24 @@ use lib.ListN.{length, take, drop, take-append-drop}
 use lib.Seq.{sets, drop-drop}
 use Rattle.big_endian.specs.Bytes.{word_bytes}
 use Rattle.big_endian.proofs.Laws.Stores.{stored_on}
-use Rattle.big_endian.proofs.Laws.Written.{word-written}
+use Rattle.big_endian.proofs.Laws.Written.{word_written}
 use Rattle.answer.specs.declared.Answer.{Answer}
 use Rattle.answer.specs.Answer.{number_of, place_of, count_of}
-use Rattle.feed.specs.Feed.{resultBytes}
+use Rattle.feed.specs.Feed.{result_bytes}
 use Rattle.feed.specs.Claims.{Encodes}
 use Rattle.feed.proofs.Laws.Small.{Small}
 
-pub resultBytes-length : (a : Answer) → length (resultBytes a) ≡ 12
-unfolding resultBytes word_bytes
-resultBytes-length a = refl
+pub result_bytes-length : (a : Answer) → length (result_bytes a) ≡ 12
+unfolding result_bytes word_bytes
+result_bytes-length a = refl
 
 -- Number, place and count, stored one behind the other.
-pub result-stored :
+pub result_stored :
     (l : List ℕ) (at : ℕ) (a : Answer) →
     sets (sets (sets l at (word_bytes (number_of a))) (at + 4) (word_bytes (place_of a))) (at + 8) (word_bytes (count_of a))
-    ≡ sets l at (resultBytes a)
-unfolding resultBytes word_bytes
-result-stored l at a =
+    ≡ sets l at (result_bytes a)
+unfolding result_bytes word_bytes
+result_stored l at a =
     let n = word_bytes (number_of a) in
     let p = word_bytes (place_of a) in
     let k = word_bytes (count_of a) in
@@ -34,27 +34,27 @@ result-stored l at a =
 -- ---- a result, read
 
 -- What lies four bytes on, behind a word.
-word-behind : (b : List ℕ) (at n : ℕ) (rest : List ℕ) → drop at b ≡ word_bytes n ++ rest → drop (at + 4) b ≡ rest
+word_behind : (b : List ℕ) (at n : ℕ) (rest : List ℕ) → drop at b ≡ word_bytes n ++ rest → drop (at + 4) b ≡ rest
 unfolding word_bytes
-word-behind b at n rest e = sym (drop-drop 4 at b) ∙ ap (drop 4) e
+word_behind b at n rest e = sym (drop-drop 4 at b) ∙ ap (drop 4) e
 
 -- The three words of a result, and what follows them.
-result-split : (b : List ℕ) (at : ℕ) (a : Answer) → take 12 (drop at b) ≡ resultBytes a → drop at b
+result_split : (b : List ℕ) (at : ℕ) (a : Answer) → take 12 (drop at b) ≡ result_bytes a → drop at b
     ≡ word_bytes (number_of a) ++ (word_bytes (place_of a) ++ (word_bytes (count_of a) ++ drop 12 (drop at b)))
-unfolding resultBytes
-result-split b at a e =
+unfolding result_bytes
+result_split b at a e =
     sym (take-append-drop 12 (drop at b)) ∙ ap (λ (l : List ℕ). l ++ drop 12 (drop at b)) e ∙ simp append_assoc
 
 -- Number, place and count of an answer that fits are read where its result lies.
-pub result-read : (b : List ℕ) (at : ℕ) (a : Answer) → Small a → take 12 (drop at b) ≡ resultBytes a → Encodes b at a
-result-read b at a s e =
-    let number = result-split b at a e in
-    let place = word-behind b at (number_of a) _ number in
+pub result_read : (b : List ℕ) (at : ℕ) (a : Answer) → Small a → take 12 (drop at b) ≡ result_bytes a → Encodes b at a
+result_read b at a s e =
+    let number = result_split b at a e in
+    let place = word_behind b at (number_of a) _ number in
     let z : at + 8 ≡ at + 4 + 4 = omega arith in
-    let count = word-behind b (at + 4) (place_of a) _ place in
+    let count = word_behind b (at + 4) (place_of a) _ place in
     record {
       bytes = e;
-      number = word-written b at (number_of a) _ s.number number;
-      place = word-written b (at + 4) (place_of a) _ s.place place;
-      count = rw z (word-written b (at + 4 + 4) (count_of a) _ s.count count);
+      number = word_written b at (number_of a) _ s.number number;
+      place = word_written b (at + 4) (place_of a) _ s.place place;
+      count = rw z (word_written b (at + 4 + 4) (count_of a) _ s.count count);
     }

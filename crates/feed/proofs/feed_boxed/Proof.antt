@@ -3,8 +3,8 @@ use mathlib.Core.Path.{◌≡◌, refl, sym, ap, ◌∙◌}
 use mathlib.Core.List.{[], ◌∷◌}
 use borrow.Author.Rules.{rules}
 use Rattle.answer.specs.declared.Check.TheVariants.{Passed}
-use Rattle.polygon.specs.Grids.{isMixed, gridCheck}
-use Rattle.feed.specs.Feed.{sizeCheck, feedCheck}
+use Rattle.polygon.specs.Grids.{is_mixed, grid_check}
+use Rattle.feed.specs.Feed.{size_check, feed_check}
 use Rattle.feed.proofs.feed_boxed.Statement.{statement}
 use Rattle.feed.proofs.feed_boxed.Tie as tie
 
@@ -18,7 +18,7 @@ enum-known-number : tie.Need-enum-known-number
 enum-known-number c = search rules
 
 returns : tie.Need-returns
-unfolding feedCheck
+unfolding feed_check
 returns c = let e = sym c.before.before.before.size-check.ensures ∙ c.before.number.given.1 in (
   rw e refl,
   rw e refl,
@@ -38,18 +38,18 @@ enum-known-number-2 c = search rules
 
 -- What lines 26 and 27, and then 10 and 28, say.
 sized : (c : tie.After-enum-told) →
-    let a = c.before.before.before.before.args in sizeCheck a.queries.now a.room ≡ Passed
+    let a = c.before.before.before.before.args in size_check a.queries.now a.room ≡ Passed
 sized c = sym c.before.before.size-check.ensures ∙ c.enum_told.given.1
 
 checked : (c : tie.After-grid-check) →
     let a = c.before.before.before.before.before.before.args in
-    gridCheck a.vertices.now (isMixed a.grid (a.known.grid ∷ a.queries-grid ∷ [])) ≡ c.grid-check.result
+    grid_check a.vertices.now (is_mixed a.grid (a.known.grid ∷ a.queries-grid ∷ [])) ≡ c.grid-check.result
 checked c =
     let a = c.before.before.before.before.before.before.args in
-    sym (c.grid-check.ensures ∙ ap (gridCheck a.vertices.now) c.before.is-mixed.ensures)
+    sym (c.grid-check.ensures ∙ ap (grid_check a.vertices.now) c.before.is-mixed.ensures)
 
 returns-2 : tie.Need-returns-2
-unfolding feedCheck
+unfolding feed_check
 returns-2 c =
     let k = c.before.before.before in
     let size = sized k.before.before in
@@ -63,7 +63,7 @@ same_length : tie.Need-same-length
 same_length c = search rules
 
 returns-3 : tie.Need-returns-3
-unfolding feedCheck
+unfolding feed_check
 returns-3 c =
     let a = c.before in
     let e = a.before.before in
@@ -72,8 +72,8 @@ returns-3 c =
     let grid = checked k ∙ e.enum-told2.given.1 in
     (rw (size, grid) a.accept-boxed.ensures.0, rw (size, grid) a.accept-boxed.ensures.1)
 
-pub feed-boxed-spec : {M : Type 1} → statement M
-feed-boxed-spec =
+pub feed_boxed_spec : {M : Type 1} → statement M
+feed_boxed_spec =
     tie.close
     (tie.spec
     size-check-requires

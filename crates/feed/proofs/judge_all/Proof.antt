@@ -5,17 +5,17 @@ use native.Mathlib.Omega.{arith}
 use borrow.Author.Rules.{rules}
 use lib.ListN.{length}
 use lib.Seq.{sets}
-use Rattle.sphere.specs.Point.{limitOf}
-use Rattle.feed.specs.Feed.{queryCount, result_of, resultsBytes, feedBytes}
+use Rattle.sphere.specs.Point.{limit_of}
+use Rattle.feed.specs.Feed.{query_count, result_of, resultsBytes, feed_bytes}
 use Rattle.big_endian.proofs.Laws.RowBytes.{rows_more}
-use Rattle.feed.proofs.Laws.Results.{resultBytes-length}
+use Rattle.feed.proofs.Laws.Results.{result_bytes-length}
 use Rattle.feed.proofs.judge_all.Statement.{statement}
 use Rattle.feed.proofs.judge_all.Tie as tie
 
 abbrev invariant-loop : tie.invariant-loop
 invariant-loop grid vertices boxes sectors table buckets list near₀ index known second queries results₀ n i₀ near results i =
     (i ≤ n) × (length results ≡ length results₀)
-    × (results ≡ sets results₀ 0 (resultsBytes (result_of (limitOf grid) vertices known second queries) i))
+    × (results ≡ sets results₀ 0 (resultsBytes (result_of (limit_of grid) vertices known second queries) i))
     × (length near ≡ length near₀)
 
 abbrev decreases-loop : tie.decreases-loop
@@ -51,8 +51,8 @@ loop-again c =
     let one = c.before.before.before.before.judge-one in
     let l = c.before.before.before.before.before.before.before.before.loop in
     let s = c.before.before.before.before.before.before.before.before.before.before.before.before.before.before.before.before.args in
-    let result = result_of (limitOf s.grid) s.vertices.now s.known s.second s.queries.now in
-    let more = rows_more 12 result (λ i. resultBytes-length _) s.results.now l.i in
+    let result = result_of (limit_of s.grid) s.vertices.now s.known s.second s.queries.now in
+    let more = rows_more 12 result (λ i. result_bytes-length _) s.results.now l.i in
     let kept = one.auto.1.1.1.1.1.1.1 in (
       omega arith,
       kept.1.1.1.1.1.1.0 ∙ l.invariant.1,
@@ -67,14 +67,14 @@ same-length-2 : tie.Need-same-length-2 invariant-loop decreases-loop
 same-length-2 c = c.before.loop.invariant.1
 
 returns : tie.Need-returns invariant-loop decreases-loop
-unfolding feedBytes
+unfolding feed_bytes
 returns c =
     let s = c.before.before.before.before.before.before.before.before.before.args in
-    let e : c.before.loop.i ≡ queryCount s.queries.now = omega arith in
+    let e : c.before.loop.i ≡ query_count s.queries.now = omega arith in
     rw (← e) c.before.loop.invariant.2
 
-pub judge-all-spec : {M : Type 1} → statement M
-judge-all-spec =
+pub judge_all_spec : {M : Type 1} → statement M
+judge_all_spec =
     tie.close
     (tie.spec
     invariant-loop

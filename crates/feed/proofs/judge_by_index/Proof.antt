@@ -4,19 +4,19 @@ use Prim.Native.Nat.{◌*◌, ◌≤◌}
 use native.Mathlib.Nat.{le_trans}
 use native.Mathlib.Omega.{arith}
 use borrow.Author.Rules.{rules}
-use Rattle.sphere.specs.Point.{limitOf}
+use Rattle.sphere.specs.Point.{limit_of}
 use Rattle.answer.specs.declared.Check.TheVariants.{Passed}
-use Rattle.polygon.specs.Checks.{acceptCheck}
-use Rattle.polygon.specs.Vertices.{vertexCount}
-use Rattle.polygon.proofs.Laws.Checks.{accept-passed}
-use Rattle.polygon.proofs.Laws.Pair.{optional-first}
+use Rattle.polygon.specs.Checks.{accept_check}
+use Rattle.polygon.specs.Vertices.{vertices_count}
+use Rattle.polygon.proofs.Laws.Checks.{accept_passed}
+use Rattle.polygon.proofs.Laws.Pair.{optional_first}
 use Rattle.feed.proofs.judge_by_index.Statement.{statement}
 use Rattle.feed.proofs.judge_by_index.Tie as tie
 
 -- The known point is accepted.
-accepted : (s : tie.Start) → acceptCheck (limitOf s.args.grid) s.args.vertices.now s.args.known ≡ Passed
+accepted : (s : tie.Start) → accept_check (limit_of s.args.grid) s.args.vertices.now s.args.known ≡ Passed
 accepted s =
-    optional-first (limitOf s.args.grid) s.args.vertices.now s.args.known s.args.second s.requires.0.0
+    optional_first (limit_of s.args.grid) s.args.vertices.now s.args.known s.args.second s.requires.0.0
 
 slice-aggregate-build : tie.Need-slice-aggregate-build
 slice-aggregate-build c = search rules
@@ -37,8 +37,8 @@ slice-aggregate-build-5 c = search rules
 build-requires : tie.Need-build-requires
 build-requires c κs =
     let s = c.before.before.before.before.before.before.before in
-    let most = (accept-passed (accepted s)).listed.most in
-    let twice : vertexCount s.args.vertices.now * 2 ≤ 8192 = omega (arith, most) in
+    let most = (accept_passed (accepted s)).listed.most in
+    let twice : vertices_count s.args.vertices.now * 2 ≤ 8192 = omega (arith, most) in
     ((accepted s, le_trans twice (search rules), le_trans most (search rules)), (search rules, search rules))
 
 slice-aggregate-judge-all : tie.Need-slice-aggregate-judge-all
@@ -68,8 +68,8 @@ same_length c = search rules
 returns : tie.Need-returns
 returns c = c.before.before.before.judge-all.ensures
 
-pub judge-by-index-spec : {M : Type 1} → statement M
-judge-by-index-spec =
+pub judge_by_index_spec : {M : Type 1} → statement M
+judge_by_index_spec =
     tie.close
     (tie.spec
     slice-aggregate-build

@@ -1,6 +1,6 @@
 -- `judge_each` meets its contract, with an index or none.
 use borrow.Author.Rules.{rules}
-use Rattle.cones.proofs.Laws.Index.{none-on}
+use Rattle.cones.proofs.Laws.Index.{none_on}
 use Rattle.feed.proofs.judge_each.Statement.{statement}
 use Rattle.feed.proofs.judge_each.Tie as tie
 
@@ -56,7 +56,7 @@ no-index-requires c κs = search rules
 judge-all-requires : tie.Need-judge-all-requires
 judge-all-requires c κs =
     let s = c.before.before.before.before.before.before.before.before.before.before in
-    (s.requires.0, (rw c.before.no_index.ensures (none-on _ _ _ _ _), s.requires.1))
+    (s.requires.0, (rw c.before.no_index.ensures (none_on _ _ _ _ _), s.requires.1))
 
 same-length-3 : tie.Need-same-length-3
 same-length-3 c = search rules
@@ -64,8 +64,8 @@ same-length-3 c = search rules
 returns-3 : tie.Need-returns-3
 returns-3 c = c.before.before.before.judge-all.ensures
 
-pub judge-each-spec : {M : Type 1} → statement M
-judge-each-spec =
+pub judge_each_spec : {M : Type 1} → statement M
+judge_each_spec =
     tie.close
     (tie.spec
     add-if1

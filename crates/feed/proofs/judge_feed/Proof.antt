@@ -3,14 +3,14 @@ use mathlib.Core.Path.{◌≡◌, sym, ap, ◌∙◌}
 use borrow.Author.Rules.{rules}
 use lib.ListN.{length}
 use lib.Seq.{sets}
-use Rattle.sphere.specs.Point.{limitOf}
+use Rattle.sphere.specs.Point.{limit_of}
 use Rattle.answer.specs.declared.Check.TheVariants.{Passed}
-use Rattle.polygon.specs.Pair.{noSecond}
-use Rattle.judging.proofs.Laws.Accept.{room-any, after-boxed}
-use Rattle.judging.proofs.Laws.From.{optional-none}
-use Rattle.feed.specs.Feed.{feedCheck, feedBytes}
-use Rattle.feed.proofs.Laws.ResultBuffer.{buffer-stored}
-use Rattle.feed.proofs.Laws.Ends.{FeedPassed, feed-passed, feed-refused, feed-done}
+use Rattle.polygon.specs.Pair.{no_second}
+use Rattle.judging.proofs.Laws.Accept.{room_any, after_boxed}
+use Rattle.judging.proofs.Laws.From.{optional_none}
+use Rattle.feed.specs.Feed.{feed_check, feed_bytes}
+use Rattle.feed.proofs.Laws.ResultBuffer.{buffer_stored}
+use Rattle.feed.proofs.Laws.Ends.{FeedPassed, feed_passed, feed_refused, feed_done}
 use Rattle.feed.proofs.judge_feed.Statement.{statement}
 use Rattle.feed.proofs.judge_feed.Tie as tie
 
@@ -18,7 +18,7 @@ module _ (c : tie.After-enum-told) where
   abbrev entry : tie.Start
   entry = c.before.before.before.before.before.before.before
 
-  passed : let s = entry.args in feedCheck s.grid s.vertices.now s.known s.queries-grid s.queries.now
+  passed : let s = entry.args in feed_check s.grid s.vertices.now s.known s.queries-grid s.queries.now
       (length s.results.now) ≡ Passed
   passed = sym c.before.before.before.feed-boxed.ensures.0 ∙ c.enum_told.given.1
 
@@ -26,13 +26,13 @@ module _ (c : tie.After-enum-told) where
       (length s.results.now)
   facts =
       let s = entry.args in
-      feed-passed s.grid s.vertices.now s.known s.queries-grid s.queries.now _ passed
+      feed_passed s.grid s.vertices.now s.known s.queries-grid s.queries.now _ passed
 
 slice-aggregate-feed-boxed : tie.Need-slice-aggregate-feed-boxed
 slice-aggregate-feed-boxed c = search rules
 
 feed-boxed-requires : tie.Need-feed-boxed-requires
-feed-boxed-requires c κs = room-any c.before.before.before.args.vertices.now _ (search rules)
+feed-boxed-requires c κs = room_any c.before.before.before.args.vertices.now _ (search rules)
 
 enum_told : tie.Need-enum-told
 enum_told c = search rules
@@ -46,7 +46,7 @@ returns c =
     let e = sym f.feed-boxed.ensures.0 ∙ c.before.number.given.1 in
     let s = f.before.before.before.before.args in
     let w =
-    feed-refused s.grid s.vertices.now s.known s.queries-grid s.queries.now s.results.now e in
+    feed_refused s.grid s.vertices.now s.known s.queries-grid s.queries.now s.results.now e in
     (sym w.answered, sym w.filled)
 
 no-second-requires : tie.Need-no-second-requires
@@ -61,13 +61,13 @@ judge-each-requires c κs =
     let t = n.before in
     let f = t.before.before.before in
     let s = (entry t).args in
-    let limit = limitOf s.grid in
+    let limit = limit_of s.grid in
     let vs = s.vertices.now in
     let ok = (facts t).accepted in (
       (
-        rw n.no_second.ensures (optional-none limit vs s.known.point ok),
+        rw n.no_second.ensures (optional_none limit vs s.known.point ok),
         rw (f.feed-boxed.ensures.1, passed t)
-            (after-boxed limit vs s.known.point _ ok (room-any vs _ (search rules))),
+            (after_boxed limit vs s.known.point _ ok (room_any vs _ (search rules))),
       ),
       (facts t).enough,
     )
@@ -81,17 +81,17 @@ returns-2 c =
     let n = j.before.before.before in
     let t = n.before in
     let s = (entry t).args in
-    let limit = limitOf s.grid in
+    let limit = limit_of s.grid in
     let vs = s.vertices.now in
     let Q = s.queries.now in
-    let w = feed-done s.grid vs s.known s.queries-grid Q s.results.now (passed t) in
+    let w = feed_done s.grid vs s.known s.queries-grid Q s.results.now (passed t) in
     let each = j.judge-each.ensures
-    ∙ ap (λ Y. sets s.results.now 0 (feedBytes limit vs s.known.point Y Q)) n.no_second.ensures in
-    let stored = buffer-stored limit vs s.known.point noSecond Q s.results.now (facts t).enough in
+    ∙ ap (λ Y. sets s.results.now 0 (feed_bytes limit vs s.known.point Y Q)) n.no_second.ensures in
+    let stored = buffer_stored limit vs s.known.point no_second Q s.results.now (facts t).enough in
     (sym w.answered, each ∙ stored ∙ sym w.filled)
 
-pub judge-feed-spec : {M : Type 1} → statement M
-judge-feed-spec =
+pub judge_feed_spec : {M : Type 1} → statement M
+judge_feed_spec =
     tie.close
     (tie.spec
     slice-aggregate-feed-boxed

@@ -10,5 +10,5 @@ returns c = sym (lt-ltb _ _ c.if1.true)
 returns-2 : tie.Need-returns-2
 returns-2 c = sym (le-ltb _ _ c.if1.false)
 
-pub mode-for-spec : {M : Type 1} → statement M
-mode-for-spec = tie.close (tie.spec returns returns-2)
+pub mode_for_spec : {M : Type 1} → statement M
+mode_for_spec = tie.close (tie.spec returns returns-2)

@@ -1,7 +1,7 @@
 -- `store_result` meets its contract.
 use mathlib.Core.Path.{◌∙◌}
 use borrow.Author.Rules.{rules}
-use Rattle.feed.proofs.Laws.Results.{result-stored}
+use Rattle.feed.proofs.Laws.Results.{result_stored}
 use Rattle.feed.proofs.store_result.Statement.{statement}
 use Rattle.feed.proofs.store_result.Tie as tie
 
@@ -44,10 +44,10 @@ returns c =
     let n = rw c1.before.number.ensures at c1.put_word.ensures in
     let p = rw (c2.before.place.ensures, n) at c2.put-word2.ensures in
     let k = rw (c3.before.count.ensures, p) at c3.put-word3.ensures in
-    k ∙ result-stored s.results.now s.at s.answer
+    k ∙ result_stored s.results.now s.at s.answer
 
-pub store-result-spec : {M : Type 1} → statement M
-store-result-spec =
+pub store_result_spec : {M : Type 1} → statement M
+store_result_spec =
     tie.close
     (tie.spec
     number-requires

@@ -1,6 +1,6 @@
 -- The sheet in front of some bytes, refused: 20 to 23, at a place among the bytes or just past them. Defined: Refuses.
--- Proved, in order: passed-refuses, failed-refuses, refuses-then, refuses-here, refuses-if, refuses-field,
--- refuses-charset, refuses-five, refuses-front.
+-- Proved, in order: passed_refuses, failed_refuses, refuses_then, refuses_here, refuses_if, refuses_field,
+-- refuses_charset, refuses_five, refuses_front.
 use mathlib.Core.Path.{◌≡◌, refl, sym}
 use mathlib.Core.Bool.{Bool, true, false, not, cond}
 use mathlib.Core.List.{List}
@@ -8,79 +8,79 @@ use Prim.Native.Nat.{ℕ, ◌+◌, ◌≤◌}
 use native.Mathlib.Omega.{arith}
 use lib.Dec.{eqb, ltb}
 use lib.ListN.{length}
-use Rattle.big_endian.specs.Bytes.{byteAt, short_at}
+use Rattle.big_endian.specs.Bytes.{byte_at, short_at}
 use Rattle.answer.specs.declared.Check.{Check}
 use Rattle.answer.specs.declared.Check.TheVariants.{Passed, Failed}
-use Rattle.answer.specs.Chain.{◌then◌, failsHere}
-use Rattle.answer.proofs.Laws.Chain.{failed-not-passed}
-use Rattle.fields.specs.Fields.{isAllowed, fieldCheck, fieldEnd, isCharset, charsetCheck, fiveFields, secondField}
-use Rattle.fields.specs.Fields.{gridOf, tag_of}
-use Rattle.fields.specs.Fields.{zoneCheck, nameCheck, knownCheck}
-use Rattle.fields.specs.Fields.{sheetFields, knownStart, verticesStart, secondStart, hasSecond}
-use Rattle.fields.proofs.Laws.Fields.{passed-sound, passed-spans, charset-field}
+use Rattle.answer.specs.Chain.{◌then◌, fails_here}
+use Rattle.answer.proofs.Laws.Chain.{failed_not_passed}
+use Rattle.fields.specs.Fields.{is_allowed, field_check, field_end, is_charset, charset_check, five_fields, second_field}
+use Rattle.fields.specs.Fields.{grid_of, tag_of}
+use Rattle.fields.specs.Fields.{zone_check, name_check, known_check}
+use Rattle.fields.specs.Fields.{sheet_fields, known_start, vertices_start, second_start, has_second_point}
+use Rattle.fields.proofs.Laws.Fields.{passed_sound, passed_spans, charset_field}
 
 -- If the check fails, its number is 20 to 23 and its place at most `most`.
 pub record Refuses (most : ℕ) (c : Check) : Type 0 where
   pub refusal : (n p : ℕ) → c ≡ Failed n p → (20 ≤ n) × (n ≤ 23) × (p ≤ most)
 
-passed-refuses : {most : ℕ} → Refuses most Passed
-passed-refuses = record { refusal = λ n p e. failed-not-passed (sym e) }
+passed_refuses : {most : ℕ} → Refuses most Passed
+passed_refuses = record { refusal = λ n p e. failed_not_passed (sym e) }
 
-failed-refuses : {most n p : ℕ} → 20 ≤ n → n ≤ 23 → p ≤ most → Refuses most (Failed n p)
-failed-refuses {most} {n} {p} low high h = record {
+failed_refuses : {most n p : ℕ} → 20 ≤ n → n ≤ 23 → p ≤ most → Refuses most (Failed n p)
+failed_refuses {most} {n} {p} low high h = record {
   refusal = λ k q e. let z = same e in (omega arith, omega arith, omega arith);
 }
   where
     same : {n p k q : ℕ} → Failed n p ≡ Failed k q → (n ≡ k) × (p ≡ q)
     same e = (cc, cc)
 
-pub refuses-then : {most : ℕ} (c d : Check) → Refuses most c → (c ≡ Passed → Refuses most d) → Refuses most (c then d)
-refuses-then Passed d h g = g refl
-refuses-then (Failed n p) d h g = let z = h.refusal n p refl in failed-refuses z.0 z.1 z.2
+pub refuses_then : {most : ℕ} (c d : Check) → Refuses most c → (c ≡ Passed → Refuses most d) → Refuses most (c then d)
+refuses_then Passed d h g = g refl
+refuses_then (Failed n p) d h g = let z = h.refusal n p refl in failed_refuses z.0 z.1 z.2
 
-refuses-here :
+refuses_here :
     {most : ℕ} (number place : ℕ) (bad : Bool) → 20 ≤ number → number ≤ 23 → place ≤ most →
-    Refuses most (failsHere number place bad)
-refuses-here number place true low high h = failed-refuses low high h
-refuses-here number place false low high h = passed-refuses
+    Refuses most (fails_here number place bad)
+refuses_here number place true low high h = failed_refuses low high h
+refuses_here number place false low high h = passed_refuses
 
-refuses-if : {most : ℕ} {c : Check} (t : Bool) → Refuses most c → Refuses most (cond t c Passed)
-refuses-if true h = h
-refuses-if false h = passed-refuses
+refuses_if : {most : ℕ} {c : Check} (t : Bool) → Refuses most c → Refuses most (cond t c Passed)
+refuses_if true h = h
+refuses_if false h = passed_refuses
 
-refuses-field :
+refuses_field :
     {most : ℕ} (tag : ℕ) (isLength : ℕ → Bool) (b : List ℕ) (at : ℕ) → at ≤ most →
-    Refuses most (fieldCheck tag isLength b at)
-unfolding fieldCheck
-refuses-field tag isLength b at h =
-    refuses-then _ _ (refuses-here 20 at (ltb (length b) (at + 3)) (omega arith) (omega arith) h)
-    (λ _. refuses-then _ _ (refuses-here 21 at (not (eqb (byteAt b at) tag)) (omega arith) (omega arith) h)
-    (λ _. refuses-then _ _ (refuses-here 22 at (not (isLength (short_at b (at + 1)))) (omega arith) (omega arith) h)
-    (λ _. refuses-here 20 at (ltb (length b) (fieldEnd b at)) (omega arith) (omega arith) h)))
+    Refuses most (field_check tag isLength b at)
+unfolding field_check
+refuses_field tag isLength b at h =
+    refuses_then _ _ (refuses_here 20 at (ltb (length b) (at + 3)) (omega arith) (omega arith) h)
+    (λ _. refuses_then _ _ (refuses_here 21 at (not (eqb (byte_at b at) tag)) (omega arith) (omega arith) h)
+    (λ _. refuses_then _ _ (refuses_here 22 at (not (isLength (short_at b (at + 1)))) (omega arith) (omega arith) h)
+    (λ _. refuses_here 20 at (ltb (length b) (field_end b at)) (omega arith) (omega arith) h)))
 
-refuses-charset : {most : ℕ} (b : List ℕ) → 7 ≤ most → Refuses most (charsetCheck b)
-unfolding charsetCheck
-refuses-charset b h =
-    refuses-then _ _ (refuses-field 2 (isAllowed 1 1 1) b 7 h)
-    (λ _. refuses-here 23 7 (not (isCharset (byteAt b 10))) (omega arith) (omega arith) h)
+refuses_charset : {most : ℕ} (b : List ℕ) → 7 ≤ most → Refuses most (charset_check b)
+unfolding charset_check
+refuses_charset b h =
+    refuses_then _ _ (refuses_field 2 (is_allowed 1 1 1) b 7 h)
+    (λ _. refuses_here 23 7 (not (is_charset (byte_at b 10))) (omega arith) (omega arith) h)
 
 -- Each field begins where one that passed ends.
-refuses-five : (b : List ℕ) → Refuses (length b) (fiveFields b)
-unfolding fiveFields fieldEnd
-refuses-five b =
-    refuses-then (zoneCheck b) _ (refuses-field 1 (isAllowed 4 4 1) b 0 (omega arith))
-    (λ z. let zone = passed-sound 1 4 4 1 b 0 z in
-    refuses-then (charsetCheck b) _ (refuses-charset b (omega arith))
-    (λ c. let charset = passed-sound 2 1 1 1 b 7 (charset-field b c) in
-    refuses-then (nameCheck b) _ (refuses-field 3 (isAllowed 1 120 1) b 11 (omega arith))
-    (λ n. let name = passed-sound 3 1 120 1 b 11 n in
-    refuses-then (knownCheck b) _ (refuses-field 4 (isAllowed 12 12 1) b (knownStart b) name.ends)
-    (λ k. let known = passed-sound 4 12 12 1 b (knownStart b) k in
-    refuses-field (tag_of (gridOf b)) (isAllowed 36 49152 12) b (verticesStart b) (omega (arith, known.ends))))))
+refuses_five : (b : List ℕ) → Refuses (length b) (five_fields b)
+unfolding five_fields field_end
+refuses_five b =
+    refuses_then (zone_check b) _ (refuses_field 1 (is_allowed 4 4 1) b 0 (omega arith))
+    (λ z. let zone = passed_sound 1 4 4 1 b 0 z in
+    refuses_then (charset_check b) _ (refuses_charset b (omega arith))
+    (λ c. let charset = passed_sound 2 1 1 1 b 7 (charset_field b c) in
+    refuses_then (name_check b) _ (refuses_field 3 (is_allowed 1 120 1) b 11 (omega arith))
+    (λ n. let name = passed_sound 3 1 120 1 b 11 n in
+    refuses_then (known_check b) _ (refuses_field 4 (is_allowed 12 12 1) b (known_start b) name.ends)
+    (λ k. let known = passed_sound 4 12 12 1 b (known_start b) k in
+    refuses_field (tag_of (grid_of b)) (is_allowed 36 49152 12) b (vertices_start b) (omega (arith, known.ends))))))
 
-pub refuses-front : (b : List ℕ) → Refuses (length b) (sheetFields b)
-unfolding sheetFields secondField
-refuses-front b =
-    refuses-then (fiveFields b) _ (refuses-five b)
-    (λ e. refuses-if (hasSecond b)
-    (refuses-field 6 (isAllowed 12 12 1) b (secondStart b) (passed-spans b e).ends))
+pub refuses_front : (b : List ℕ) → Refuses (length b) (sheet_fields b)
+unfolding sheet_fields second_field
+refuses_front b =
+    refuses_then (five_fields b) _ (refuses_five b)
+    (λ e. refuses_if (has_second_point b)
+    (refuses_field 6 (is_allowed 12 12 1) b (second_start b) (passed_spans b e).ends))

@@ -4,33 +4,33 @@ use native.Mathlib.Omega.{arith}
 use borrow.Author.Rules.{rules}
 use Rattle.answer.specs.declared.Check.{Check}
 use Rattle.answer.specs.declared.Check.TheVariants.{Passed, Failed}
-use Rattle.fields.specs.Fields.{sheetEnd, sheetFields}
-use Rattle.fields.specs.Parts.{partsAfter}
-use Rattle.fields.proofs.Laws.Fields.{five-passed}
-use Rattle.fields.proofs.Laws.Parts.{front-failed, front-then, rest-failed, rest-passed, parts-check, parts-passed}
-use Rattle.fields.proofs.Laws.Parts.{parts-refused, parts-end, parts-few}
+use Rattle.fields.specs.Fields.{sheet_end, sheet_fields}
+use Rattle.fields.specs.Parts.{parts_after}
+use Rattle.fields.proofs.Laws.Fields.{five_passed}
+use Rattle.fields.proofs.Laws.Parts.{front_failed, front_then, rest_failed, rest_passed, parts_check, parts_passed}
+use Rattle.fields.proofs.Laws.Parts.{parts_refused, parts_end, parts_few}
 use Rattle.fields.proofs.fields_check.Statement.{statement}
 use Rattle.fields.proofs.fields_check.Tie as tie
 
 -- What the fields said.
-checked : (c : tie.After-sheet-fields) → sheetFields c.before.before.args.b.now ≡ c.sheet-fields.result.check
-checked c = let b = c.before.before.args.b.now in sym (parts-check b (sheetFields b) c.sheet-fields.ensures)
+checked : (c : tie.After-sheet-fields) → sheet_fields c.before.before.args.b.now ≡ c.sheet-fields.result.check
+checked c = let b = c.before.before.args.b.now in sym (parts_check b (sheet_fields b) c.sheet-fields.ensures)
 
 -- They passed.
 module _ (c : tie.After-enum-told) where
   abbrev front : tie.After-sheet-fields
   front = c.before.before
 
-  passed : sheetFields front.before.before.args.b.now ≡ Passed
+  passed : sheet_fields front.before.before.args.b.now ≡ Passed
   passed = checked front ∙ c.enum_told.given.1
 
-  parts : front.sheet-fields.result ≡ partsAfter Passed front.before.before.args.b.now
-  parts = parts-passed front.before.before.args.b.now front.sheet-fields.ensures passed
+  parts : front.sheet-fields.result ≡ parts_after Passed front.before.before.args.b.now
+  parts = parts_passed front.before.before.args.b.now front.sheet-fields.ensures passed
 
 -- Where the sheet ends.
 end : (c : tie.After-sheet-end) →
-    c.sheet-end.result ≡ sheetEnd (front c.before).before.before.args.b.now
-end c = c.sheet-end.ensures ∙ parts-end _ (parts c.before)
+    c.sheet-end.result ≡ sheet_end (front c.before).before.before.args.b.now
+end c = c.sheet-end.ensures ∙ parts_end _ (parts c.before)
 
 sheet-fields-requires : tie.Need-sheet-fields-requires
 sheet-fields-requires c κs = search rules
@@ -46,10 +46,10 @@ returns c =
     let f = c.before.before in
     let b = f.before.before.args.b.now in
     let e = checked f ∙ c.enum-told2.given.1 in
-    f.sheet-fields.ensures ∙ ap (λ (k : Check). partsAfter k b) (e ∙ sym (front-failed b e))
+    f.sheet-fields.ensures ∙ ap (λ (k : Check). parts_after k b) (e ∙ sym (front_failed b e))
 
 sheet-end-requires : tie.Need-sheet-end-requires
-sheet-end-requires c κs = parts-few _ (parts c) (five-passed _ (passed c))
+sheet-end-requires c κs = parts_few _ (parts c) (five_passed _ (passed c))
 
 refused-requires : tie.Need-refused-requires
 refused-requires c κs = search rules
@@ -59,8 +59,8 @@ returns-2 c =
     let s = c.before.before in
     let b = (front s.before).before.before.args.b.now in
     let e = end s in
-    parts-refused b c.refused.ensures
-    (front-then b (passed s.before) ∙ rest-failed b (omega arith) ∙ ap (Failed 24) (sym e))
+    parts_refused b c.refused.ensures
+    (front_then b (passed s.before) ∙ rest_failed b (omega arith) ∙ ap (Failed 24) (sym e))
 
 returns-3 : tie.Need-returns-3
 returns-3 c =
@@ -68,10 +68,10 @@ returns-3 c =
     let b = (front s.before).before.before.args.b.now in
     let e = end s in
     parts s.before
-    ∙ sym (ap (λ (k : Check). partsAfter k b) (front-then b (passed s.before) ∙ rest-passed b (omega arith)))
+    ∙ sym (ap (λ (k : Check). parts_after k b) (front_then b (passed s.before) ∙ rest_passed b (omega arith)))
 
-pub fields-check-spec : {M : Type 1} → statement M
-fields-check-spec =
+pub fields_check_spec : {M : Type 1} → statement M
+fields_check_spec =
     tie.close
     (tie.spec
     sheet-fields-requires

@@ -1,7 +1,7 @@
 -- `fields::known_start` meets its contract.
 use native.Mathlib.Omega.{arith}
 use borrow.Author.Rules.{rules}
-use Rattle.fields.specs.Fields.{fieldEnd}
+use Rattle.fields.specs.Fields.{field_end}
 use Rattle.fields.proofs.known_start.Statement.{statement}
 use Rattle.fields.proofs.known_start.Tie as tie
 
@@ -21,9 +21,9 @@ add-result-2 : tie.Need-overflow-add-result-2
 add-result-2 c = search rules
 
 returns : tie.Need-returns
-unfolding fieldEnd
+unfolding field_end
 returns c = omega arith
 
-pub known-start-spec : {M : Type 1} → statement M
-known-start-spec =
+pub known_start_spec : {M : Type 1} → statement M
+known_start_spec =
     tie.close (tie.spec add-result add-short-at short-at-requires cast-result add-result-2 returns)

@@ -18,5 +18,5 @@ returns c = rw c.if1.true (ap (λ (k : ℕ). k + 15) c.before.second-start.ensur
 returns-2 : tie.Need-returns-2
 returns-2 c = rw c.if1.false c.before.second-start.ensures
 
-pub sheet-end-spec : {M : Type 1} → statement M
-sheet-end-spec = tie.close (tie.spec second-start-requires add-result returns returns-2)
+pub sheet_end_spec : {M : Type 1} → statement M
+sheet_end_spec = tie.close (tie.spec second-start-requires add-result returns returns-2)

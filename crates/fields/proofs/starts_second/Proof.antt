@@ -14,5 +14,5 @@ returns c = refl
 returns-2 : tie.Need-returns-2
 returns-2 c = rw (get_or-eq_default c.before.args.b.now 0 c.if1.false)
 
-pub starts-second-spec : {M : Type 1} → statement M
-starts-second-spec = tie.close (tie.spec shared-slice-read-result returns returns-2)
+pub starts_second_spec : {M : Type 1} → statement M
+starts_second_spec = tie.close (tie.spec shared-slice-read-result returns returns-2)

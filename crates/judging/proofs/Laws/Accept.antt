@@ -1,4 +1,4 @@
--- The boxes of an accepted polygon. Proved, in order: room-any (768 numbers hold the boxes of any), after-boxed.
+-- The boxes of an accepted polygon. Proved, in order: room_any (768 numbers hold the boxes of any), after_boxed.
 use mathlib.Core.Path.{◌≡◌}
 use mathlib.Core.List.{List}
 use Prim.Native.Nat.{ℕ, ◌≤◌}
@@ -7,16 +7,16 @@ use lib.IntN.{ℤ}
 use lib.ListN.{length}
 use Rattle.sphere.specs.declared.point.Point.{Point}
 use Rattle.answer.specs.declared.Check.TheVariants.{Passed}
-use Rattle.polygon.specs.Vertices.{vertexCount}
-use Rattle.polygon.specs.Checks.{acceptCheck}
-use Rattle.polygon.proofs.Laws.Checks.{accept-passed}
+use Rattle.polygon.specs.Vertices.{vertices_count}
+use Rattle.polygon.specs.Checks.{accept_check}
+use Rattle.polygon.proofs.Laws.Checks.{accept_passed}
 use Rattle.search.specs.Boxes.{Boxed}
-use Rattle.search.proofs.Laws.Stored.{stored-boxed, runs_fit}
-use Rattle.judging.specs.Accept.{BoxRoom, boxedAfter}
+use Rattle.search.proofs.Laws.Stored.{stored_boxed, runs_fit}
+use Rattle.judging.specs.Accept.{BoxRoom, boxed_after}
 
-pub room-any : (vs boxes : List ℤ) → 768 ≤ length boxes → BoxRoom vs boxes
-room-any vs boxes h = record { enough = λ few. omega (arith, runs_fit (vertexCount vs) few) }
+pub room_any : (vs boxes : List ℤ) → 768 ≤ length boxes → BoxRoom vs boxes
+room_any vs boxes h = record { enough = λ few. omega (arith, runs_fit (vertices_count vs) few) }
 
-pub after-boxed : (limit : ℕ) (vs : List ℤ) (X : Point) (boxes : List ℤ) → acceptCheck limit vs X ≡ Passed →
-    BoxRoom vs boxes → Boxed vs (boxedAfter Passed vs boxes)
-after-boxed limit vs X boxes e room = stored-boxed vs boxes (room.enough (accept-passed e).listed.most)
+pub after_boxed : (limit : ℕ) (vs : List ℤ) (X : Point) (boxes : List ℤ) → accept_check limit vs X ≡ Passed →
+    BoxRoom vs boxes → Boxed vs (boxed_after Passed vs boxes)
+after_boxed limit vs X boxes e room = stored_boxed vs boxes (room.enough (accept_passed e).listed.most)

@@ -1,4 +1,4 @@
--- No second point (document 02, P4). Proved, in order: none-null, from-none (the first point judges), optional-none.
+-- No second point (document 02, P4). Proved, in order: none_null, from_none (the first point judges), optional_none.
 -- The laws of any second point are in polygon's Laws/Pair.
 use mathlib.Core.Path.{◌≡◌, refl}
 use mathlib.Core.Bool.{true}
@@ -8,17 +8,17 @@ use lib.IntN.{ℤ}
 use Rattle.sphere.specs.declared.point.Point.{Point}
 use Rattle.sphere.specs.Point.{is_null}
 use Rattle.answer.specs.declared.Check.TheVariants.{Passed}
-use Rattle.polygon.specs.Checks.{acceptCheck}
-use Rattle.polygon.specs.Pair.{noSecond, judgeFrom, optionalCheck}
+use Rattle.polygon.specs.Checks.{accept_check}
+use Rattle.polygon.specs.Pair.{no_second, judge_from, optional_check}
 use Rattle.polygon.proofs.Laws.Pair as pair
 
-pub none-null : is_null noSecond ≡ true
+pub none_null : is_null no_second ≡ true
 unfolding is_null
-none-null = refl
+none_null = refl
 
-pub from-none : (X P : Point) → judgeFrom X noSecond P ≡ X
-from-none X P = pair.judge-none X noSecond P none-null
+pub from_none : (X P : Point) → judge_from X no_second P ≡ X
+from_none X P = pair.judge_none X no_second P none_null
 
-pub optional-none : (limit : ℕ) (vs : List ℤ) (X : Point) → acceptCheck limit vs X ≡ Passed →
-    optionalCheck limit vs X noSecond ≡ Passed
-optional-none limit vs X e = pair.optional-none limit vs X noSecond e none-null
+pub optional_none : (limit : ℕ) (vs : List ℤ) (X : Point) → accept_check limit vs X ≡ Passed →
+    optional_check limit vs X no_second ≡ Passed
+optional_none limit vs X e = pair.optional_none limit vs X no_second e none_null

@@ -1,4 +1,4 @@
--- The verdict by a tally, and the number looked at of a refusal. Proved: verdict-tally, none-looked.
+-- The verdict by a tally, and the number looked at of a refusal. Proved: verdict_tally, none_looked.
 use mathlib.Core.Path.{◌≡◌, refl}
 use mathlib.Core.List.{List}
 use Prim.Native.Nat.{ℕ}
@@ -6,25 +6,25 @@ use lib.IntN.{ℤ}
 use Rattle.sphere.specs.declared.point.Point.{Point}
 use Rattle.answer.specs.declared.Found.{Found}
 use Rattle.answer.specs.declared.Found.TheVariants.{Nothing, At}
-use Rattle.answer.specs.Search.{firstFrom}
-use Rattle.polygon.specs.Vertices.{vertexCount}
-use Rattle.polygon.specs.Verdict.{isOnBorder, boundaryOf, crossingsOf, windingOf, verdictBy, verdictOf}
+use Rattle.answer.specs.Search.{first_from}
+use Rattle.polygon.specs.Vertices.{vertices_count}
+use Rattle.polygon.specs.Verdict.{is_on_border, boundary_of, crossings_of, winding_of, verdict_by, verdict_of}
 use Rattle.search.specs.declared.walk.Mode.{Mode}
 use Rattle.search.specs.declared.walk.Mode.TheVariants.{Plain, Boxed, Counted}
-use Rattle.search.specs.Walk.{tallyBy, tallyFrom, lookedIn}
-use Rattle.judging.specs.Judge.{verdictOn}
+use Rattle.search.specs.Walk.{tally_by, tally_from, looked_in}
+use Rattle.judging.specs.Judge.{verdict_on}
 
 -- The verdict is the walk's.
-pub verdict-tally : (vs : List ℤ) (X P : Point) → verdictOn (tallyFrom vs X P 0 (vertexCount vs)) ≡ verdictOf vs X P
-unfolding tallyFrom verdictOf boundaryOf crossingsOf windingOf
-verdict-tally vs X P = go (firstFrom (isOnBorder vs P) 0 (vertexCount vs)) _ _
+pub verdict_tally : (vs : List ℤ) (X P : Point) → verdict_on (tally_from vs X P 0 (vertices_count vs)) ≡ verdict_of vs X P
+unfolding tally_from verdict_of boundary_of crossings_of winding_of
+verdict_tally vs X P = go (first_from (is_on_border vs P) 0 (vertices_count vs)) _ _
   where
-    go : (found : Found) (c : ℕ) (s : ℤ) → verdictOn (tallyBy found c s) ≡ verdictBy found c s
+    go : (found : Found) (c : ℕ) (s : ℤ) → verdict_on (tally_by found c s) ≡ verdict_by found c s
     go Nothing c s = refl
     go (At edge) c s = refl
 
 -- None in every mode.
-pub none-looked : (mode : Mode) → 0 ≡ lookedIn mode 0
-none-looked Plain = refl
-none-looked Boxed = refl
-none-looked Counted = refl
+pub none_looked : (mode : Mode) → 0 ≡ looked_in mode 0
+none_looked Plain = refl
+none_looked Boxed = refl
+none_looked Counted = refl

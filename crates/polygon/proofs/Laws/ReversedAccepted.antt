@@ -1,5 +1,5 @@
--- A polygon from last vertex to first is accepted with the same reference point. Proved, in order: reversed-list,
--- reversed-beyond, reversed-circle; reversed-accepted, reversed-judged.
+-- A polygon from last vertex to first is accepted with the same reference point. Proved, in order: reversed_list,
+-- reversed_beyond, reversed_circle; reversed_accepted, reversed_judged.
 use mathlib.Core.Path.{◌≡◌, refl, sym, ◌∙◌, ap, ap₂}
 use mathlib.Core.Bool.{Bool, true, false, ◌&&◌}
 use mathlib.Core.List.{List}
@@ -11,23 +11,23 @@ use lib.IntN.{ℤ, pos, neg_ℤ}
 use lib.ListN.{length}
 use Rattle.integers.specs.Sign.{sign_of, is_zero}
 use Rattle.sphere.specs.declared.point.Point.{Point}
-use Rattle.sphere.specs.Point.{isBeyond}
-use Rattle.sphere.specs.Orientation.{orientationOf}
-use Rattle.sphere.proofs.Laws.Orientation.{orientation-swap}
+use Rattle.sphere.specs.Point.{is_beyond}
+use Rattle.sphere.specs.Orientation.{orientation_of}
+use Rattle.sphere.proofs.Laws.Orientation.{orientation_swap}
 use Rattle.sphere.proofs.Laws.OnEdge.{ne→not-zero}
 use Rattle.answer.specs.declared.Check.TheVariants.{Passed}
-use Rattle.answer.specs.Search.{firstFrom}
-use Rattle.answer.specs.Chain.{◌then◌, isPassed}
-use Rattle.answer.proofs.Laws.Chain.{passed, fails-at-passed, then-passed}
+use Rattle.answer.specs.Search.{first_from}
+use Rattle.answer.specs.Chain.{◌then◌, is_passed}
+use Rattle.answer.proofs.Laws.Chain.{passed, fails_at_passed, then_passed}
 use Rattle.answer.proofs.Laws.First.{none_first}
-use Rattle.answer.proofs.Laws.Search.{first-none}
-use Rattle.polygon.specs.Vertices.{vertexCount, vertexAt, start_of, end_of, reversedOf}
-use Rattle.polygon.specs.Checks.{isVertexList, listCheck, beyondCheck, referenceCheck, circleCheck, queryCheck}
-use Rattle.polygon.specs.Checks.{farCheck, polygonCheck, acceptCheck, judgeCheck}
+use Rattle.answer.proofs.Laws.Search.{first_none}
+use Rattle.polygon.specs.Vertices.{vertices_count, vertex_at, start_of, end_of, reversed_of}
+use Rattle.polygon.specs.Checks.{is_vertex_list, list_check, beyond_check, reference_check, circle_check, query_check}
+use Rattle.polygon.specs.Checks.{far_check, polygon_check, accept_check, judge_check}
 use Rattle.polygon.specs.Accepted.{Listed}
-use Rattle.polygon.proofs.Laws.Checks.{list-passed, polygon-first, accept-polygon, circle-passed, accept-short}
-use Rattle.polygon.proofs.Laws.Reversed.{reversed-length, reversed-count, reversed-vertex, Partner, partner}
-use Rattle.polygon.proofs.Laws.Reversed.{reversed-mirrored}
+use Rattle.polygon.proofs.Laws.Checks.{list_passed, polygon_first, accept_polygon, circle_passed, accept_short}
+use Rattle.polygon.proofs.Laws.Reversed.{reversed_length, reversed_count, reversed_vertex, Partner, partner}
+use Rattle.polygon.proofs.Laws.Reversed.{reversed_mirrored}
 
 whole : (n : ℕ) → 3 ≤ n → n ≤ 4096 → (eqb (n * 3 % 3) 0 && (leb 3 (n * 3 / 3) && leb (n * 3 / 3) 4096)) ≡ true
 whole n least most =
@@ -38,66 +38,66 @@ whole n least most =
     )
 
 module _ (limit : ℕ) (vs : List ℤ) where
-  reversed-list : listCheck vs ≡ Passed → listCheck (reversedOf vs) ≡ Passed
-  unfolding listCheck
-  reversed-list e =
-      let l = list-passed {vs = vs} e in
-      let all : isVertexList (reversedOf vs) ≡ true =
-      rw (reversed-length vs) (whole (vertexCount vs) l.least l.most) in
+  reversed_list : list_check vs ≡ Passed → list_check (reversed_of vs) ≡ Passed
+  unfolding list_check
+  reversed_list e =
+      let l = list_passed {vs = vs} e in
+      let all : is_vertex_list (reversed_of vs) ≡ true =
+      rw (reversed_length vs) (whole (vertices_count vs) l.least l.most) in
       rw all
 
-  reversed-beyond : beyondCheck limit vs ≡ Passed → beyondCheck limit (reversedOf vs) ≡ Passed
-  unfolding beyondCheck
-  reversed-beyond e =
-      let test : ℕ → Bool = λ i. isBeyond limit (vertexAt vs i) in
-      let none = fails-at-passed 11 (firstFrom test 0 (vertexCount vs)) e in
-      rw (none_first (λ i. isBeyond limit (vertexAt (reversedOf vs) i)) 0 (vertexCount (reversedOf vs))
+  reversed_beyond : beyond_check limit vs ≡ Passed → beyond_check limit (reversed_of vs) ≡ Passed
+  unfolding beyond_check
+  reversed_beyond e =
+      let test : ℕ → Bool = λ i. is_beyond limit (vertex_at vs i) in
+      let none = fails_at_passed 11 (first_from test 0 (vertices_count vs)) e in
+      rw (none_first (λ i. is_beyond limit (vertex_at (reversed_of vs) i)) 0 (vertices_count (reversed_of vs))
       (λ i h l.
-      let n : i < vertexCount vs = omega (arith, l, reversed-count vs) in
-      ap (isBeyond limit) (reversed-vertex vs i (vertexCount vs - suc i) (omega (arith, n)))
-      ∙ first-none test 0 (vertexCount vs) (vertexCount vs - suc i) none (omega arith) (omega (arith, n))))
+      let n : i < vertices_count vs = omega (arith, l, reversed_count vs) in
+      ap (is_beyond limit) (reversed_vertex vs i (vertices_count vs - suc i) (omega (arith, n)))
+      ∙ first_none test 0 (vertices_count vs) (vertices_count vs - suc i) none (omega arith) (omega (arith, n))))
 
-  reversed-circle : (X : Point) → Listed vs → circleCheck vs X ≡ Passed → circleCheck (reversedOf vs) X ≡ Passed
-  unfolding circleCheck
-  reversed-circle X listed e =
-      rw (none_first (λ i. is_zero (sign_of (orientationOf (start_of ws i) (end_of ws i) X))) 0 (vertexCount ws)
-      (λ i h l. edge i (omega (arith, l, reversed-count vs))))
+  reversed_circle : (X : Point) → Listed vs → circle_check vs X ≡ Passed → circle_check (reversed_of vs) X ≡ Passed
+  unfolding circle_check
+  reversed_circle X listed e =
+      rw (none_first (λ i. is_zero (sign_of (orientation_of (start_of ws i) (end_of ws i) X))) 0 (vertices_count ws)
+      (λ i h l. edge i (omega (arith, l, reversed_count vs))))
     where
       ws : List ℤ
-      ws = reversedOf vs
+      ws = reversed_of vs
 
       m : ℕ
-      m = vertexCount vs - 1
+      m = vertices_count vs - 1
 
-      ring : vertexCount vs ≡ suc (vertexCount vs - 1)
+      ring : vertices_count vs ≡ suc (vertices_count vs - 1)
       ring = omega (arith, listed.least)
 
-      edge : (i : ℕ) → i < vertexCount vs → is_zero (sign_of (orientationOf (start_of ws i) (end_of ws i) X)) ≡ false
+      edge : (i : ℕ) → i < vertices_count vs → is_zero (sign_of (orientation_of (start_of ws i) (end_of ws i) X)) ≡ false
       edge i l =
-          let p = partner vs ws m i (reversed-mirrored vs m ring) (omega (arith, l, ring)) in
+          let p = partner vs ws m i (reversed_mirrored vs m ring) (omega (arith, l, ring)) in
           let A = start_of vs p.edge in
           let B = end_of vs p.edge in
-          let back : orientationOf (start_of ws i) (end_of ws i) X ≡ orientationOf B A X =
-          ap₂ (λ A B. orientationOf A B X) p.turned.0 p.turned.1 in
-          ne→not-zero (orientationOf (start_of ws i) (end_of ws i) X) (λ z.
-          circle-passed vs X e p.edge (omega (arith, p.below, ring))
-          (orientation-swap A B X ∙ ap neg_ℤ (sym back ∙ z)))
+          let back : orientation_of (start_of ws i) (end_of ws i) X ≡ orientation_of B A X =
+          ap₂ (λ A B. orientation_of A B X) p.turned.0 p.turned.1 in
+          ne→not-zero (orientation_of (start_of ws i) (end_of ws i) X) (λ z.
+          circle_passed vs X e p.edge (omega (arith, p.below, ring))
+          (orientation_swap A B X ∙ ap neg_ℤ (sym back ∙ z)))
 
-module _ (limit : ℕ) (vs : List ℤ) (X : Point) (e : acceptCheck limit vs X ≡ Passed) where
-  pub reversed-accepted : acceptCheck limit (reversedOf vs) X ≡ Passed
-  unfolding acceptCheck
-  reversed-accepted =
-      let rest = (then-passed (polygonCheck limit vs) (referenceCheck limit X then circleCheck vs X) e).1 in
-      let point = then-passed (referenceCheck limit X) (circleCheck vs X) rest in
-      let first = polygon-first limit vs (accept-polygon limit vs X e) in
-      passed (acceptCheck limit (reversedOf vs) X)
-      (accept-short limit (reversedOf vs) X (reversed-list limit vs first.0) (reversed-beyond limit vs first.1)
-      ∙ rw (point.0, reversed-circle limit vs X (list-passed {vs = vs} first.0) point.1))
+module _ (limit : ℕ) (vs : List ℤ) (X : Point) (e : accept_check limit vs X ≡ Passed) where
+  pub reversed_accepted : accept_check limit (reversed_of vs) X ≡ Passed
+  unfolding accept_check
+  reversed_accepted =
+      let rest = (then_passed (polygon_check limit vs) (reference_check limit X then circle_check vs X) e).1 in
+      let point = then_passed (reference_check limit X) (circle_check vs X) rest in
+      let first = polygon_first limit vs (accept_polygon limit vs X e) in
+      passed (accept_check limit (reversed_of vs) X)
+      (accept_short limit (reversed_of vs) X (reversed_list limit vs first.0) (reversed_beyond limit vs first.1)
+      ∙ rw (point.0, reversed_circle limit vs X (list_passed {vs = vs} first.0) point.1))
 
 -- And so is a query.
-pub reversed-judged : (limit : ℕ) (vs : List ℤ) (X P : Point) → judgeCheck limit vs X P ≡ Passed →
-    judgeCheck limit (reversedOf vs) X P ≡ Passed
-unfolding judgeCheck
-reversed-judged limit vs X P e =
-    let all = then-passed (acceptCheck limit vs X) (queryCheck limit P then farCheck X P) e in
-    rw (reversed-accepted limit vs X all.0) all.1
+pub reversed_judged : (limit : ℕ) (vs : List ℤ) (X P : Point) → judge_check limit vs X P ≡ Passed →
+    judge_check limit (reversed_of vs) X P ≡ Passed
+unfolding judge_check
+reversed_judged limit vs X P e =
+    let all = then_passed (accept_check limit vs X) (query_check limit P then far_check X P) e in
+    rw (reversed_accepted limit vs X all.0) all.1

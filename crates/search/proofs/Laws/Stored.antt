@@ -1,5 +1,5 @@
--- Boxes stored one after the other, and read. Proved, in order: corner-at, corner-before (a store further on), box-at,
--- box-before, stored-length, stored-each, stored-boxed, runs_fit.
+-- Boxes stored one after the other, and read. Proved, in order: corner_at, corner_before (a store further on), box_at_lem,
+-- box_before, stored_length, stored_each, stored_boxed, runs_fit.
 use mathlib.Core.Path.{◌≡◌, refl, sym, ap, ◌∙◌}
 use mathlib.Core.Logic.{⊎_elim}
 use mathlib.Core.List.{List, [], ◌∷◌}
@@ -10,18 +10,18 @@ use lib.IntN.{ℤ, pos}
 use lib.ListN.{length, get_or, set, length-set}
 use lib.Seq.{sets, length-sets, get_or-set_same, get_or-set_other}
 use Rattle.sphere.specs.declared.point.Point.{Point}
-use Rattle.polygon.specs.Vertices.{vertexCount, vertexAt}
+use Rattle.polygon.specs.Vertices.{vertices_count, vertex_at}
 use Rattle.polygon.specs.Accepted.{Listed}
 use Rattle.search.specs.declared.boxes.Bounds.{Bounds}
-use Rattle.search.specs.Boxes.{runCount, boxOf, boxAt, pointStored, boxStored, boxesStored, Boxed}
+use Rattle.search.specs.Boxes.{run_count, box_of, box_at, point_stored, box_stored, boxes_stored, Boxed}
 
 -- ---- three numbers, stored from `at` on
 module _ (l : List ℤ) (at : ℕ) (x y z : ℤ) where
   abbrev three : List ℤ
   three = sets l at (x ∷ y ∷ z ∷ [])
 
-  three-before : (k : ℕ) → k < at → get_or three k (pos 0) ≡ get_or l k (pos 0)
-  three-before k h =
+  three_before : (k : ℕ) → k < at → get_or three k (pos 0) ≡ get_or l k (pos 0)
+  three_before k h =
       get_or-set_other (set (set l at x) (suc at) y) (suc (suc at)) k z (pos 0) (λ e. omega arith)
       ∙ get_or-set_other (set l at x) (suc at) k y (pos 0) (λ e. omega arith)
       ∙ get_or-set_other l at k x (pos 0) (λ e. omega arith)
@@ -43,89 +43,89 @@ module _ (l : List ℤ) (at : ℕ) (x y z : ℤ) where
         get_or-set_same (set (set l at x) (suc at) y) (suc (suc at)) z (pos 0) (simp length-set (omega arith))
 
 -- ---- a point
-pub corner-at : (l : List ℤ) (i at : ℕ) (p : Point) → at ≡ i * 3 → at + 3 ≤ length l →
-    vertexAt (pointStored l at p) i ≡ p
-unfolding vertexAt
-corner-at l i at p e h = λ j. record {
-  x = (at-index (i * 3) at (sym e) ∙ three-first l at p.x p.y p.z h) j;
-  y = (at-index (i * 3 + 1) (suc at) (omega (arith, e)) ∙ three-second l at p.x p.y p.z h) j;
-  z = (at-index (i * 3 + 2) (suc (suc at)) (omega (arith, e)) ∙ three_third l at p.x p.y p.z h) j;
+pub corner_at : (l : List ℤ) (i at : ℕ) (p : Point) → at ≡ i * 3 → at + 3 ≤ length l →
+    vertex_at (point_stored l at p) i ≡ p
+unfolding vertex_at
+corner_at l i at p e h = λ j. record {
+  x = (at_index (i * 3) at (sym e) ∙ three-first l at p.x p.y p.z h) j;
+  y = (at_index (i * 3 + 1) (suc at) (omega (arith, e)) ∙ three-second l at p.x p.y p.z h) j;
+  z = (at_index (i * 3 + 2) (suc (suc at)) (omega (arith, e)) ∙ three_third l at p.x p.y p.z h) j;
 }
   where
-    at-index : (k m : ℕ) → k ≡ m → get_or (pointStored l at p) k (pos 0) ≡ get_or (pointStored l at p) m (pos 0)
-    at-index k m q = ap (λ k. get_or (pointStored l at p) k (pos 0)) q
+    at_index : (k m : ℕ) → k ≡ m → get_or (point_stored l at p) k (pos 0) ≡ get_or (point_stored l at p) m (pos 0)
+    at_index k m q = ap (λ k. get_or (point_stored l at p) k (pos 0)) q
 
-pub corner-before : (l : List ℤ) (i at : ℕ) (p : Point) → i * 3 + 3 ≤ at →
-    vertexAt (pointStored l at p) i ≡ vertexAt l i
-unfolding vertexAt
-corner-before l i at p h = λ j. record {
-  x = three-before l at p.x p.y p.z (i * 3) (omega arith) j;
-  y = three-before l at p.x p.y p.z (i * 3 + 1) (omega arith) j;
-  z = three-before l at p.x p.y p.z (i * 3 + 2) (omega arith) j;
+pub corner_before : (l : List ℤ) (i at : ℕ) (p : Point) → i * 3 + 3 ≤ at →
+    vertex_at (point_stored l at p) i ≡ vertex_at l i
+unfolding vertex_at
+corner_before l i at p h = λ j. record {
+  x = three_before l at p.x p.y p.z (i * 3) (omega arith) j;
+  y = three_before l at p.x p.y p.z (i * 3 + 1) (omega arith) j;
+  z = three_before l at p.x p.y p.z (i * 3 + 2) (omega arith) j;
 }
 
-point-length : (l : List ℤ) (at : ℕ) (p : Point) → length (pointStored l at p) ≡ length l
-point-length l at p = length-sets l at (p.x ∷ p.y ∷ p.z ∷ [])
+point_length : (l : List ℤ) (at : ℕ) (p : Point) → length (point_stored l at p) ≡ length l
+point_length l at p = length-sets l at (p.x ∷ p.y ∷ p.z ∷ [])
 
 -- ---- a box
 module _ (l : List ℤ) (r : ℕ) (b : Bounds) where
-  box-length : length (boxStored l r b) ≡ length l
-  unfolding boxStored
-  box-length = point-length (pointStored l (r * 6) b.low) (r * 6 + 3) b.high ∙ point-length l (r * 6) b.low
+  box_length : length (box_stored l r b) ≡ length l
+  unfolding box_stored
+  box_length = point_length (point_stored l (r * 6) b.low) (r * 6 + 3) b.high ∙ point_length l (r * 6) b.low
 
-  pub box-at : r * 6 + 6 ≤ length l → boxAt (boxStored l r b) r ≡ b
-  unfolding boxAt boxStored
-  box-at h = λ j. record { low = low j; high = high j }
+  pub box_at_lem : r * 6 + 6 ≤ length l → box_at (box_stored l r b) r ≡ b
+  unfolding box_at box_stored
+  box_at_lem h = λ j. record { low = low j; high = high j }
     where
       first : List ℤ
-      first = pointStored l (r * 6) b.low
+      first = point_stored l (r * 6) b.low
 
-      low : vertexAt (pointStored (pointStored l (r * 6) b.low) (r * 6 + 3) b.high) (r * 2) ≡ b.low
+      low : vertex_at (point_stored (point_stored l (r * 6) b.low) (r * 6 + 3) b.high) (r * 2) ≡ b.low
       low =
-          corner-before (pointStored l (r * 6) b.low) (r * 2) (r * 6 + 3) b.high (omega arith)
-          ∙ corner-at l (r * 2) (r * 6) b.low (omega arith) (omega arith)
+          corner_before (point_stored l (r * 6) b.low) (r * 2) (r * 6 + 3) b.high (omega arith)
+          ∙ corner_at l (r * 2) (r * 6) b.low (omega arith) (omega arith)
 
-      high : vertexAt (pointStored (pointStored l (r * 6) b.low) (r * 6 + 3) b.high) (r * 2 + 1) ≡ b.high
+      high : vertex_at (point_stored (point_stored l (r * 6) b.low) (r * 6 + 3) b.high) (r * 2 + 1) ≡ b.high
       high =
-          corner-at (pointStored l (r * 6) b.low) (r * 2 + 1) (r * 6 + 3) b.high (omega arith)
-          (omega (arith, point-length l (r * 6) b.low))
+          corner_at (point_stored l (r * 6) b.low) (r * 2 + 1) (r * 6 + 3) b.high (omega arith)
+          (omega (arith, point_length l (r * 6) b.low))
 
-  pub box-before : (q : ℕ) → q < r → boxAt (boxStored l r b) q ≡ boxAt l q
-  unfolding boxAt boxStored
-  box-before q h = λ j. record {
+  pub box_before : (q : ℕ) → q < r → box_at (box_stored l r b) q ≡ box_at l q
+  unfolding box_at box_stored
+  box_before q h = λ j. record {
     low = before (q * 2) (omega arith) j;
     high = before (q * 2 + 1) (omega arith) j;
   }
     where
       before : (i : ℕ) → i * 3 + 3 ≤ r * 6 →
-          vertexAt (pointStored (pointStored l (r * 6) b.low) (r * 6 + 3) b.high) i ≡ vertexAt l i
+          vertex_at (point_stored (point_stored l (r * 6) b.low) (r * 6 + 3) b.high) i ≡ vertex_at l i
       before i k =
-          corner-before (pointStored l (r * 6) b.low) i (r * 6 + 3) b.high (omega arith)
-          ∙ corner-before l i (r * 6) b.low k
+          corner_before (point_stored l (r * 6) b.low) i (r * 6 + 3) b.high (omega arith)
+          ∙ corner_before l i (r * 6) b.low k
 
 -- ---- all boxes
 module _ (vs l : List ℤ) where
-  pub stored-length : (m : ℕ) → length (boxesStored vs m l) ≡ length l
-  unfolding boxesStored
-  stored-length zero = refl
-  stored-length (suc m) = box-length (boxesStored vs m l) m (boxOf vs m) ∙ stored-length m
+  pub stored_length : (m : ℕ) → length (boxes_stored vs m l) ≡ length l
+  unfolding boxes_stored
+  stored_length zero = refl
+  stored_length (suc m) = box_length (boxes_stored vs m l) m (box_of vs m) ∙ stored_length m
 
-  pub stored-each : (m r : ℕ) → m * 6 ≤ length l → r < m → boxAt (boxesStored vs m l) r ≡ boxOf vs r
-  unfolding boxesStored
-  stored-each zero r h k = absurd (omega arith)
-  stored-each (suc m) r h k = ⊎_elim
-      (λ e. rw e (box-at (boxesStored vs m l) m (boxOf vs m) (omega (arith, stored-length m))))
-      (λ earlier. box-before (boxesStored vs m l) m (boxOf vs m) r earlier ∙ stored-each m r (omega arith) earlier)
+  pub stored_each : (m r : ℕ) → m * 6 ≤ length l → r < m → box_at (boxes_stored vs m l) r ≡ box_of vs r
+  unfolding boxes_stored
+  stored_each zero r h k = absurd (omega arith)
+  stored_each (suc m) r h k = ⊎_elim
+      (λ e. rw e (box_at_lem (boxes_stored vs m l) m (box_of vs m) (omega (arith, stored_length m))))
+      (λ earlier. box_before (boxes_stored vs m l) m (box_of vs m) r earlier ∙ stored_each m r (omega arith) earlier)
       (eq-or-lt_of_le {n = r} {m = m} (omega arith))
 
-  pub stored-boxed : runCount (vertexCount vs) * 6 ≤ length l →
-      Boxed vs (boxesStored vs (runCount (vertexCount vs)) l)
-  stored-boxed h = record {
-    room = omega (arith, stored-length (runCount (vertexCount vs)));
-    each = λ r k. stored-each (runCount (vertexCount vs)) r h k;
+  pub stored_boxed : run_count (vertices_count vs) * 6 ≤ length l →
+      Boxed vs (boxes_stored vs (run_count (vertices_count vs)) l)
+  stored_boxed h = record {
+    room = omega (arith, stored_length (run_count (vertices_count vs)));
+    each = λ r k. stored_each (run_count (vertices_count vs)) r h k;
   }
 
 -- Room for the boxes of any polygon.
-pub runs_fit : (n : ℕ) → n ≤ 4096 → runCount n * 6 ≤ 768
-unfolding runCount
+pub runs_fit : (n : ℕ) → n ≤ 4096 → run_count n * 6 ≤ 768
+unfolding run_count
 runs_fit n h = omega arith

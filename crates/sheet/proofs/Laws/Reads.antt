@@ -1,7 +1,7 @@
--- What reading hands back and leaves, case by case. Proved, in order: fields-sound, fields-five, plain-passed,
--- plain-five, plain-unsound, plain-polygon; second-absent, second-present; sheet-plain, sheet-fields, sheet-five,
--- sheet-accepted, sheet-optional, sheet-failed, sheet-second; read-refused, read-accepted; loaded-by, decoded-by,
--- loaded-row, loaded-room; opened-check, opened-passed, opened-refused, opened-row, opened-room.
+-- What reading hands back and leaves, case by case. Proved, in order: fields_sound, fields_five, plain_passed,
+-- plain_five, plain_unsound, plain_polygon; second_absent, second_present; sheet_plain, sheet_fields_lem, sheet_five,
+-- sheet_accepted, sheet_optional, sheet_failed, sheet_second; read_refused, read_accepted; loaded_by, decoded_by,
+-- loaded_row, loaded_room; opened_check, opened_passed, opened_refused, opened_row, opened_room.
 use mathlib.Core.Path.{◌≡◌, refl, sym, ap, ap₂, ◌∙◌}
 use mathlib.Core.Bool.{Bool, true, false, cond}
 use mathlib.Core.List.{List, ◌++◌}
@@ -10,153 +10,153 @@ use native.Mathlib.Omega.{arith}
 use lib.IntN.{ℤ}
 use lib.ListN.{length, take, length-append}
 use lib.Seq.{take_at}
-use Rattle.sphere.specs.Point.{limitOf, is_null}
-use Rattle.big_endian.specs.Bytes.{pointAt}
-use Rattle.big_endian.proofs.Laws.Rows.{intsAt-length}
+use Rattle.sphere.specs.Point.{limit_of, is_null}
+use Rattle.big_endian.specs.Bytes.{point_at}
+use Rattle.big_endian.proofs.Laws.Rows.{ints_at-length}
 use Rattle.answer.specs.declared.Check.{Check}
 use Rattle.answer.specs.declared.Check.TheVariants.{Passed, Failed}
 use Rattle.answer.specs.Chain.{◌then◌}
-use Rattle.polygon.specs.Checks.{acceptCheck}
-use Rattle.polygon.specs.Pair.{secondCheck, optionalCheck, noSecond}
-use Rattle.answer.proofs.Laws.Chain.{then-passed}
-use Rattle.judging.proofs.Laws.From.{none-null}
-use Rattle.fields.specs.Fields.{verticesStart, gridOf, secondStart, hasSecond, fiveFields, sheetFields, restCheck}
-use Rattle.fields.specs.Fields.{fieldsCheck}
-use Rattle.sheet.specs.Sheet.{known_of, vertexCountOf, verticesOf, second_of, plainCheck, sheetSecondCheck}
-use Rattle.sheet.specs.Sheet.{sheetCheck}
-use Rattle.sheet.specs.Sheet.{refusedSheet, readAfter, read_of, loadedAfter, loadedOf}
-use Rattle.sheet.specs.Open.{refusedOpen, openedAfter, decodedOf}
+use Rattle.polygon.specs.Checks.{accept_check}
+use Rattle.polygon.specs.Pair.{second_check, optional_check, no_second}
+use Rattle.answer.proofs.Laws.Chain.{then_passed}
+use Rattle.judging.proofs.Laws.From.{none_null}
+use Rattle.fields.specs.Fields.{vertices_start, grid_of, second_start, has_second_point, five_fields, sheet_fields, rest_check}
+use Rattle.fields.specs.Fields.{fields_check}
+use Rattle.sheet.specs.Sheet.{known_of, vertex_count_of, vertices_of, second_of, plain_check, sheet_second_check}
+use Rattle.sheet.specs.Sheet.{sheet_check}
+use Rattle.sheet.specs.Sheet.{refused_sheet, read_after, read_of, loaded_after, loaded_of}
+use Rattle.sheet.specs.Open.{refused_open, opened_after, decoded_of}
 use Rattle.sheet.specs.declared.open.Opened.{Opened}
-use Rattle.fields.proofs.Laws.Fields.{five-passed}
+use Rattle.fields.proofs.Laws.Fields.{five_passed}
 
 module _ (b : List ℕ) where
-  pub fields-sound : fieldsCheck b ≡ Passed → sheetFields b ≡ Passed
-  unfolding fieldsCheck
-  fields-sound e = (then-passed (sheetFields b) (restCheck b) e).0
+  pub fields_sound : fields_check b ≡ Passed → sheet_fields b ≡ Passed
+  unfolding fields_check
+  fields_sound e = (then_passed (sheet_fields b) (rest_check b) e).0
 
-  pub fields-five : fieldsCheck b ≡ Passed → fiveFields b ≡ Passed
-  fields-five e = five-passed b (fields-sound e)
+  pub fields_five : fields_check b ≡ Passed → five_fields b ≡ Passed
+  fields_five e = five_passed b (fields_sound e)
 
   -- ---- without the second point: the fields are sound and the polygon is accepted
-  pub plain-passed :
-      plainCheck b ≡ Passed →
-      (fieldsCheck b ≡ Passed) × (acceptCheck (limitOf (gridOf b)) (verticesOf b) (known_of b) ≡ Passed)
-  unfolding plainCheck
-  plain-passed e = then-passed (fieldsCheck b) (acceptCheck (limitOf (gridOf b)) (verticesOf b) (known_of b)) e
+  pub plain_passed :
+      plain_check b ≡ Passed →
+      (fields_check b ≡ Passed) × (accept_check (limit_of (grid_of b)) (vertices_of b) (known_of b) ≡ Passed)
+  unfolding plain_check
+  plain_passed e = then_passed (fields_check b) (accept_check (limit_of (grid_of b)) (vertices_of b) (known_of b)) e
 
-  pub plain-five : plainCheck b ≡ Passed → fiveFields b ≡ Passed
-  plain-five e = fields-five (plain-passed e).0
+  pub plain_five : plain_check b ≡ Passed → five_fields b ≡ Passed
+  plain_five e = fields_five (plain_passed e).0
 
-  pub plain-unsound : {n p : ℕ} → fieldsCheck b ≡ Failed n p → plainCheck b ≡ Failed n p
-  unfolding plainCheck
-  plain-unsound e = rw e
+  pub plain_unsound : {n p : ℕ} → fields_check b ≡ Failed n p → plain_check b ≡ Failed n p
+  unfolding plain_check
+  plain_unsound e = rw e
 
-  pub plain-polygon :
-      fieldsCheck b ≡ Passed → plainCheck b ≡ acceptCheck (limitOf (gridOf b)) (verticesOf b) (known_of b)
-  unfolding plainCheck
-  plain-polygon e = rw e
+  pub plain_polygon :
+      fields_check b ≡ Passed → plain_check b ≡ accept_check (limit_of (grid_of b)) (vertices_of b) (known_of b)
+  unfolding plain_check
+  plain_polygon e = rw e
 
   -- ---- the second point
-  pub second-absent : hasSecond b ≡ false → (second_of b ≡ noSecond) × (sheetSecondCheck b ≡ Passed)
-  unfolding second_of sheetSecondCheck
-  second-absent e = (rw e, rw e)
+  pub second_absent : has_second_point b ≡ false → (second_of b ≡ no_second) × (sheet_second_check b ≡ Passed)
+  unfolding second_of sheet_second_check
+  second_absent e = (rw e, rw e)
 
-  pub second-present : hasSecond b ≡ true →
-      (second_of b ≡ pointAt b (secondStart b + 3))
-      × (sheetSecondCheck b ≡ secondCheck (limitOf (gridOf b)) (verticesOf b) (known_of b) (second_of b))
-  unfolding second_of sheetSecondCheck
-  second-present e = (rw e, rw e)
+  pub second_present : has_second_point b ≡ true →
+      (second_of b ≡ point_at b (second_start b + 3))
+      × (sheet_second_check b ≡ second_check (limit_of (grid_of b)) (vertices_of b) (known_of b) (second_of b))
+  unfolding second_of sheet_second_check
+  second_present e = (rw e, rw e)
 
   -- ---- with it
-  pub sheet-failed : {n p : ℕ} → plainCheck b ≡ Failed n p → sheetCheck b ≡ Failed n p
-  unfolding sheetCheck
-  sheet-failed e = rw e
+  pub sheet_failed : {n p : ℕ} → plain_check b ≡ Failed n p → sheet_check b ≡ Failed n p
+  unfolding sheet_check
+  sheet_failed e = rw e
 
-  pub sheet-second : plainCheck b ≡ Passed → sheetCheck b ≡ sheetSecondCheck b
-  unfolding sheetCheck
-  sheet-second e = rw e
+  pub sheet_second : plain_check b ≡ Passed → sheet_check b ≡ sheet_second_check b
+  unfolding sheet_check
+  sheet_second e = rw e
 
-  module _ (e : sheetCheck b ≡ Passed) where
-    pub sheet-plain : plainCheck b ≡ Passed
-    unfolding sheetCheck
-    sheet-plain = (then-passed (plainCheck b) (sheetSecondCheck b) e).0
+  module _ (e : sheet_check b ≡ Passed) where
+    pub sheet_plain : plain_check b ≡ Passed
+    unfolding sheet_check
+    sheet_plain = (then_passed (plain_check b) (sheet_second_check b) e).0
 
-    pub sheet-fields : fieldsCheck b ≡ Passed
-    sheet-fields = (plain-passed sheet-plain).0
+    pub sheet_fields_lem : fields_check b ≡ Passed
+    sheet_fields_lem = (plain_passed sheet_plain).0
 
-    pub sheet-sound : sheetFields b ≡ Passed
-    sheet-sound = fields-sound sheet-fields
+    pub sheet_sound : sheet_fields b ≡ Passed
+    sheet_sound = fields_sound sheet_fields_lem
 
-    pub sheet-five : fiveFields b ≡ Passed
-    sheet-five = fields-five sheet-fields
+    pub sheet_five : five_fields b ≡ Passed
+    sheet_five = fields_five sheet_fields_lem
 
-    pub sheet-accepted : acceptCheck (limitOf (gridOf b)) (verticesOf b) (known_of b) ≡ Passed
-    sheet-accepted = (plain-passed sheet-plain).1
+    pub sheet_accepted : accept_check (limit_of (grid_of b)) (vertices_of b) (known_of b) ≡ Passed
+    sheet_accepted = (plain_passed sheet_plain).1
 
     -- Its points are accepted, one or both.
-    pub sheet-optional : optionalCheck (limitOf (gridOf b)) (verticesOf b) (known_of b) (second_of b) ≡ Passed
-    unfolding sheetCheck optionalCheck
-    sheet-optional = go (hasSecond b) refl (then-passed (plainCheck b) (sheetSecondCheck b) e).1
+    pub sheet_optional : optional_check (limit_of (grid_of b)) (vertices_of b) (known_of b) (second_of b) ≡ Passed
+    unfolding sheet_check optional_check
+    sheet_optional = go (has_second_point b) refl (then_passed (plain_check b) (sheet_second_check b) e).1
       where
         either : (none : Bool) {c : Check} → c ≡ Passed → cond none Passed c ≡ Passed
         either true p = refl
         either false p = p
 
-        go : (t : Bool) → hasSecond b ≡ t → sheetSecondCheck b ≡ Passed →
-            (acceptCheck (limitOf (gridOf b)) (verticesOf b) (known_of b)
+        go : (t : Bool) → has_second_point b ≡ t → sheet_second_check b ≡ Passed →
+            (accept_check (limit_of (grid_of b)) (vertices_of b) (known_of b)
             then cond (is_null (second_of b)) Passed
-            (secondCheck (limitOf (gridOf b)) (verticesOf b) (known_of b) (second_of b)))
+            (second_check (limit_of (grid_of b)) (vertices_of b) (known_of b) (second_of b)))
             ≡ Passed
-        go true has ok = rw sheet-accepted (either (is_null (second_of b)) (sym (second-present has).1 ∙ ok))
-        go false has ok = rw (sheet-accepted, (second-absent has).0, none-null)
+        go true has ok = rw sheet_accepted (either (is_null (second_of b)) (sym (second_present has).1 ∙ ok))
+        go false has ok = rw (sheet_accepted, (second_absent has).0, none_null)
 
-  pub read-refused : {n p : ℕ} → sheetCheck b ≡ Failed n p → read_of b ≡ refusedSheet n p
+  pub read_refused : {n p : ℕ} → sheet_check b ≡ Failed n p → read_of b ≡ refused_sheet n p
   unfolding read_of
-  read-refused e = ap (λ (c : Check). readAfter c b) e
+  read_refused e = ap (λ (c : Check). read_after c b) e
 
-  pub read-accepted : sheetCheck b ≡ Passed → read_of b ≡ readAfter Passed b
+  pub read_accepted : sheet_check b ≡ Passed → read_of b ≡ read_after Passed b
   unfolding read_of
-  read-accepted e = ap (λ (c : Check). readAfter c b) e
+  read_accepted e = ap (λ (c : Check). read_after c b) e
 
-  pub loaded-by : {c : Check} (out : List ℤ) → sheetCheck b ≡ c → loadedOf b out ≡ loadedAfter c b out
-  unfolding loadedOf
-  loaded-by out e = ap (λ (c : Check). loadedAfter c b out) e
+  pub loaded_by : {c : Check} (out : List ℤ) → sheet_check b ≡ c → loaded_of b out ≡ loaded_after c b out
+  unfolding loaded_of
+  loaded_by out e = ap (λ (c : Check). loaded_after c b out) e
 
-  pub decoded-by : {c : Check} (out : List ℤ) → fieldsCheck b ≡ c → decodedOf b out ≡ loadedAfter c b out
-  unfolding decodedOf
-  decoded-by out e = ap (λ (c : Check). loadedAfter c b out) e
+  pub decoded_by : {c : Check} (out : List ℤ) → fields_check b ≡ c → decoded_of b out ≡ loaded_after c b out
+  unfolding decoded_of
+  decoded_by out e = ap (λ (c : Check). loaded_after c b out) e
 
   -- The front of what is left is the vertices.
-  pub loaded-row : (rest : List ℤ) → take (vertexCountOf b * 3) (verticesOf b ++ rest) ≡ verticesOf b
-  loaded-row rest =
-      take_at (verticesOf b) rest (vertexCountOf b * 3) (intsAt-length b (verticesStart b + 3) (vertexCountOf b * 3))
+  pub loaded_row : (rest : List ℤ) → take (vertex_count_of b * 3) (vertices_of b ++ rest) ≡ vertices_of b
+  loaded_row rest =
+      take_at (vertices_of b) rest (vertex_count_of b * 3) (ints_at-length b (vertices_start b + 3) (vertex_count_of b * 3))
 
-  pub loaded-room : (rest : List ℤ) → vertexCountOf b * 3 ≤ length (verticesOf b ++ rest)
-  loaded-room rest =
-      let all = length-append (verticesOf b) rest in
-      let front = intsAt-length b (verticesStart b + 3) (vertexCountOf b * 3) in
+  pub loaded_room : (rest : List ℤ) → vertex_count_of b * 3 ≤ length (vertices_of b ++ rest)
+  loaded_room rest =
+      let all = length-append (vertices_of b) rest in
+      let front = ints_at-length b (vertices_start b + 3) (vertex_count_of b * 3) in
       omega arith
 
   -- What the checks said, by what opening handed out.
-  pub opened-check : (c : Check) {o : Opened} → o ≡ openedAfter c b → o.check ≡ c
-  opened-check Passed e = ap (λ o. o.check) e
-  opened-check (Failed n p) e = ap (λ o. o.check) e
+  pub opened_check : (c : Check) {o : Opened} → o ≡ opened_after c b → o.check ≡ c
+  opened_check Passed e = ap (λ o. o.check) e
+  opened_check (Failed n p) e = ap (λ o. o.check) e
 
-  pub opened-passed : {c : Check} {o : Opened} → o ≡ openedAfter c b → c ≡ Passed → o ≡ openedAfter Passed b
-  opened-passed e p = e ∙ ap (λ (c : Check). openedAfter c b) p
+  pub opened_passed : {c : Check} {o : Opened} → o ≡ opened_after c b → c ≡ Passed → o ≡ opened_after Passed b
+  opened_passed e p = e ∙ ap (λ (c : Check). opened_after c b) p
 
-  pub opened-refused : {c : Check} {o : Opened} {n p : ℕ} → o ≡ refusedOpen n p → c ≡ Failed n p →
-      o ≡ openedAfter c b
-  opened-refused e p = e ∙ sym (ap (λ (c : Check). openedAfter c b) p)
+  pub opened_refused : {c : Check} {o : Opened} {n p : ℕ} → o ≡ refused_open n p → c ≡ Failed n p →
+      o ≡ opened_after c b
+  opened_refused e p = e ∙ sym (ap (λ (c : Check). opened_after c b) p)
 
   -- ---- the scratch space after the checks of a sheet that passed
-  module _ (scratch : List ℤ) {left : List ℤ} (e : fieldsCheck b ≡ Passed) (d : left ≡ decodedOf b scratch) {n : ℕ}
-      (k : n ≡ vertexCountOf b) where
-    front : left ≡ loadedAfter Passed b scratch
-    front = d ∙ decoded-by scratch e
+  module _ (scratch : List ℤ) {left : List ℤ} (e : fields_check b ≡ Passed) (d : left ≡ decoded_of b scratch) {n : ℕ}
+      (k : n ≡ vertex_count_of b) where
+    front : left ≡ loaded_after Passed b scratch
+    front = d ∙ decoded_by scratch e
 
-    pub opened-row : take (n * 3) left ≡ verticesOf b
-    opened-row = ap₂ (λ (k : ℕ) (l : List ℤ). take (k * 3) l) k front ∙ loaded-row _
+    pub opened_row : take (n * 3) left ≡ vertices_of b
+    opened_row = ap₂ (λ (k : ℕ) (l : List ℤ). take (k * 3) l) k front ∙ loaded_row _
 
-    pub opened-room : n * 3 ≤ length left
-    opened-room = rw (k, front) (loaded-room _)
+    pub opened_room : n * 3 ≤ length left
+    opened_room = rw (k, front) (loaded_room _)

@@ -1,5 +1,5 @@
--- The bytes of a sheet, read: each field is found where it was written. Proved, in order: zone-written,
--- charset-written, name-written, known_written, grid-written, count-written, vertices-written, fields-written (its
+-- The bytes of a sheet, read: each field is found where it was written. Proved, in order: zone_written,
+-- charset_written, name_written, known_written, grid_written, count_written, vertices_written, fields_written (its
 -- fields pass), second_back, reads_as (reading hands back its parts).
 use mathlib.Core.Path.{◌≡◌, refl, ap, ◌∙◌}
 use mathlib.Core.Bool.{Bool, true, false, cond}
@@ -14,226 +14,226 @@ use lib.Seq.{take_at}
 use Rattle.sphere.specs.declared.point.Point.{Point}
 use Rattle.sphere.specs.declared.point.Grid.{Grid}
 use Rattle.sphere.specs.declared.point.Grid.TheVariants.{Coarse, Fine}
-use Rattle.sphere.specs.Point.{limitOf, Within, is_null}
-use Rattle.big_endian.specs.Bytes.{short_at, word_bytes, intsBytes, numbersOf, pointBytes}
-use Rattle.big_endian.proofs.Laws.Written.{first-written, word-written, ints-written, point-written}
-use Rattle.big_endian.proofs.Laws.Stores.{intsBytes-length}
+use Rattle.sphere.specs.Point.{limit_of, Within, is_null}
+use Rattle.big_endian.specs.Bytes.{short_at, word_bytes, ints_bytes, numbers_of, point_bytes}
+use Rattle.big_endian.proofs.Laws.Written.{first_written, word_written, ints_written, point_written}
+use Rattle.big_endian.proofs.Laws.Stores.{ints_bytes-length}
 use Rattle.answer.specs.declared.Check.TheVariants.{Passed}
-use Rattle.polygon.specs.Vertices.{vertexCount}
-use Rattle.polygon.specs.Checks.{acceptCheck}
-use Rattle.polygon.specs.Pair.{optionalCheck}
-use Rattle.polygon.proofs.Laws.Pair.{optional-first, optional-check}
-use Rattle.fields.specs.Fields.{isAllowed, isCharset, fieldEnd, charsetStart, nameStart, knownStart, verticesStart}
-use Rattle.fields.specs.Fields.{gridAt, gridOf, tag_of, secondStart, sheetEnd, zoneCheck, charsetCheck, knownCheck}
-use Rattle.fields.specs.Fields.{verticesCheck, fiveFields, sheetFields, restCheck, fieldsCheck}
-use Rattle.polygon.proofs.Laws.Checks.{accept-passed}
-use Rattle.sheet.specs.Sheet.{zoneOf, charsetOf, nameLength, name_of, known_of, vertexCountOf, verticesOf, second_of}
-use Rattle.sheet.specs.Sheet.{sheetSecondCheck, sheetCheck}
+use Rattle.polygon.specs.Vertices.{vertices_count}
+use Rattle.polygon.specs.Checks.{accept_check}
+use Rattle.polygon.specs.Pair.{optional_check}
+use Rattle.polygon.proofs.Laws.Pair.{optional_first, optional_check_lem}
+use Rattle.fields.specs.Fields.{is_allowed, is_charset, field_end, charset_start, name_start, known_start, vertices_start}
+use Rattle.fields.specs.Fields.{grid_at, grid_of, tag_of, second_start, sheet_end, zone_check, charset_check, known_check}
+use Rattle.fields.specs.Fields.{vertices_check, five_fields, sheet_fields, rest_check, fields_check}
+use Rattle.polygon.proofs.Laws.Checks.{accept_passed}
+use Rattle.sheet.specs.Sheet.{zone_of, charset_of, name_length, name_of, known_of, vertex_count_of, vertices_of, second_of}
+use Rattle.sheet.specs.Sheet.{sheet_second_check, sheet_check}
 use Rattle.sheet.specs.Claims.{ReadsAs}
-use Rattle.sheet.specs.Write.{fieldBytes, secondBytes, sheetBytes}
-use Rattle.fields.proofs.Laws.Fields.{allowed-bounds, bounds-allowed}
-use Rattle.sheet.proofs.Laws.Stores.{wordBytes-length, sheetBytes-length}
-use Rattle.sheet.proofs.Laws.Bodies.{tag-written, length-written, body-written, rest-written, field-written}
-use Rattle.sheet.proofs.Laws.Reads.{plain-polygon, second-absent, second-present, sheet-second, read-accepted}
-use Rattle.sheet.proofs.Laws.Accepted.{accepted-list, accepted-number, fits_word, within_word, optional-small}
-use Rattle.sheet.proofs.Laws.Second.{none_written, some_written, second-field-written, second-written}
-use Rattle.sheet.proofs.Laws.Second.{end-second}
+use Rattle.sheet.specs.Write.{field_bytes, second_bytes, sheet_bytes}
+use Rattle.fields.proofs.Laws.Fields.{allowed_bounds, bounds_allowed}
+use Rattle.sheet.proofs.Laws.Stores.{word_bytes_length, sheet_bytes-length}
+use Rattle.sheet.proofs.Laws.Bodies.{tag_written, length_written, body_written, rest_written, field_written}
+use Rattle.sheet.proofs.Laws.Reads.{plain_polygon, second_absent, second_present, sheet_second, read_accepted}
+use Rattle.sheet.proofs.Laws.Accepted.{accepted_list, accepted_number, fits_word, within_word, optional_small}
+use Rattle.sheet.proofs.Laws.Second.{none_written, some_written, second_field_written, second_written}
+use Rattle.sheet.proofs.Laws.Second.{end_second}
 
 -- Its parts are those that the writer's checks let through.
 pub record Writable (zone charset : ℕ) (name : List ℕ) (known : Point) (g : Grid) (vertices : List ℤ)
     (second : Point) : Type 0 where
   pub small : zone < 4294967296
-  pub coded : isCharset charset ≡ true
-  pub named : isAllowed 1 120 1 (length name) ≡ true
-  pub paired : optionalCheck (limitOf g) vertices known second ≡ Passed
+  pub coded : is_charset charset ≡ true
+  pub named : is_allowed 1 120 1 (length name) ≡ true
+  pub paired : optional_check (limit_of g) vertices known second ≡ Passed
 
 module _
     (zone charset : ℕ) (name : List ℕ) (known : Point) (g : Grid) (vertices : List ℤ) (second : Point)
     (w : Writable zone charset name known g vertices second)
-    (b : List ℕ) (is : b ≡ sheetBytes zone charset name known g vertices second) where
+    (b : List ℕ) (is : b ≡ sheet_bytes zone charset name known g vertices second) where
   -- its points
-  accepted : acceptCheck (limitOf g) vertices known ≡ Passed
-  accepted = optional-first (limitOf g) vertices known second w.paired
+  accepted : accept_check (limit_of g) vertices known ≡ Passed
+  accepted = optional_first (limit_of g) vertices known second w.paired
 
-  second-within : Within 2147483647 second
-  second-within = optional-small g vertices known second w.paired
+  second_within : Within 2147483647 second
+  second_within = optional_small g vertices known second w.paired
 
   -- where the fields stand
-  zone-at :
-      drop 0 b ≡ fieldBytes 1 (word_bytes zone) ++ (fieldBytes 2 (charset ∷ [])
-      ++ (fieldBytes 3 name ++ (fieldBytes 4 (pointBytes known)
-      ++ (fieldBytes (tag_of g) (intsBytes vertices) ++ secondBytes second))))
-  unfolding sheetBytes
-  zone-at = is
+  zone_at_lem :
+      drop 0 b ≡ field_bytes 1 (word_bytes zone) ++ (field_bytes 2 (charset ∷ [])
+      ++ (field_bytes 3 name ++ (field_bytes 4 (point_bytes known)
+      ++ (field_bytes (tag_of g) (ints_bytes vertices) ++ second_bytes second))))
+  unfolding sheet_bytes
+  zone_at_lem = is
 
-  charset-at :
-      drop charsetStart b ≡ fieldBytes 2 (charset ∷ [])
-      ++ (fieldBytes 3 name ++ (fieldBytes 4 (pointBytes known)
-      ++ (fieldBytes (tag_of g) (intsBytes vertices) ++ secondBytes second)))
-  charset-at = rest-written b 0 1 (word_bytes zone) _ zone-at charsetStart (omega (arith, wordBytes-length zone))
+  charset_at :
+      drop charset_start b ≡ field_bytes 2 (charset ∷ [])
+      ++ (field_bytes 3 name ++ (field_bytes 4 (point_bytes known)
+      ++ (field_bytes (tag_of g) (ints_bytes vertices) ++ second_bytes second)))
+  charset_at = rest_written b 0 1 (word_bytes zone) _ zone_at_lem charset_start (omega (arith, word_bytes_length zone))
 
-  name-at :
-      drop nameStart b ≡ fieldBytes 3 name ++ (fieldBytes 4 (pointBytes known)
-      ++ (fieldBytes (tag_of g) (intsBytes vertices) ++ secondBytes second))
-  name-at = rest-written b charsetStart 2 (charset ∷ []) _ charset-at nameStart (omega arith)
+  name_at_lem :
+      drop name_start b ≡ field_bytes 3 name ++ (field_bytes 4 (point_bytes known)
+      ++ (field_bytes (tag_of g) (ints_bytes vertices) ++ second_bytes second))
+  name_at_lem = rest_written b charset_start 2 (charset ∷ []) _ charset_at name_start (omega arith)
 
-  name-size : length name < 65536
-  name-size = let a = allowed-bounds 1 120 1 (length name) w.named in omega arith
+  name_size : length name < 65536
+  name_size = let a = allowed_bounds 1 120 1 (length name) w.named in omega arith
 
-  pub name-length-written : nameLength b ≡ length name
-  name-length-written = length-written b nameStart 3 name _ name-at name-size
+  pub name_length_written : name_length b ≡ length name
+  name_length_written = length_written b name_start 3 name _ name_at_lem name_size
 
-  known_start : knownStart b ≡ 14 + length name
-  unfolding fieldEnd
-  known_start = omega (arith, name-length-written)
+  known_start_lem : known_start b ≡ 14 + length name
+  unfolding field_end
+  known_start_lem = omega (arith, name_length_written)
 
-  known_at : drop (knownStart b) b
-      ≡ fieldBytes 4 (pointBytes known) ++ (fieldBytes (tag_of g) (intsBytes vertices) ++ secondBytes second)
-  known_at = rest-written b nameStart 3 name _ name-at (knownStart b) known_start
+  known_at : drop (known_start b) b
+      ≡ field_bytes 4 (point_bytes known) ++ (field_bytes (tag_of g) (ints_bytes vertices) ++ second_bytes second)
+  known_at = rest_written b name_start 3 name _ name_at_lem (known_start b) known_start_lem
 
-  known-size : length (pointBytes known) ≡ 12
-  known-size = intsBytes-length (numbersOf known)
+  known_size : length (point_bytes known) ≡ 12
+  known_size = ints_bytes-length (numbers_of known)
 
-  vertices-at : drop (verticesStart b) b ≡ fieldBytes (tag_of g) (intsBytes vertices) ++ secondBytes second
-  vertices-at =
-      rest-written b (knownStart b) 4 (pointBytes known) _ known_at (verticesStart b) (omega (arith, known-size))
+  vertices_at : drop (vertices_start b) b ≡ field_bytes (tag_of g) (ints_bytes vertices) ++ second_bytes second
+  vertices_at =
+      rest_written b (known_start b) 4 (point_bytes known) _ known_at (vertices_start b) (omega (arith, known_size))
 
-  row-size : length (intsBytes vertices) < 65536
-  row-size =
-      let l = accepted-list (limitOf g) vertices known accepted in
-      omega (arith, intsBytes-length vertices)
+  row_size : length (ints_bytes vertices) < 65536
+  row_size =
+      let l = accepted_list (limit_of g) vertices known accepted in
+      omega (arith, ints_bytes-length vertices)
 
-  row-length : short_at b (verticesStart b + 1) ≡ length vertices * 4
-  row-length =
-      length-written b (verticesStart b) (tag_of g) (intsBytes vertices) _ vertices-at row-size
-      ∙ intsBytes-length vertices
+  row_length : short_at b (vertices_start b + 1) ≡ length vertices * 4
+  row_length =
+      length_written b (vertices_start b) (tag_of g) (ints_bytes vertices) _ vertices_at row_size
+      ∙ ints_bytes-length vertices
 
-  second-start : secondStart b ≡ verticesStart b + 3 + length (intsBytes vertices)
-  unfolding fieldEnd
-  second-start = omega (arith, row-length, intsBytes-length vertices)
+  second_start_lem : second_start b ≡ vertices_start b + 3 + length (ints_bytes vertices)
+  unfolding field_end
+  second_start_lem = omega (arith, row_length, ints_bytes-length vertices)
 
-  second_at : drop (secondStart b) b ≡ secondBytes second
-  second_at = rest-written b (verticesStart b) (tag_of g) (intsBytes vertices) _ vertices-at (secondStart b) second-start
+  second_at : drop (second_start b) b ≡ second_bytes second
+  second_at = rest_written b (vertices_start b) (tag_of g) (ints_bytes vertices) _ vertices_at (second_start b) second_start_lem
 
   -- what is read there
-  pub zone-written : zoneOf b ≡ zone
-  zone-written = word-written b 3 zone _ w.small (body-written b 0 1 (word_bytes zone) _ zone-at)
+  pub zone_written : zone_of b ≡ zone
+  zone_written = word_written b 3 zone _ w.small (body_written b 0 1 (word_bytes zone) _ zone_at_lem)
 
-  pub charset-written : charsetOf b ≡ charset
-  charset-written = first-written b 10 (body-written b charsetStart 2 (charset ∷ []) _ charset-at)
+  pub charset_written : charset_of b ≡ charset
+  charset_written = first_written b 10 (body_written b charset_start 2 (charset ∷ []) _ charset_at)
 
-  pub name-written : name_of b ≡ name
-  name-written =
-      rw (name-length-written, body-written b nameStart 3 name _ name-at) (take_at name _ (length name) refl)
+  pub name_written : name_of b ≡ name
+  name_written =
+      rw (name_length_written, body_written b name_start 3 name _ name_at_lem) (take_at name _ (length name) refl)
 
   pub known_written : known_of b ≡ known
   known_written =
-      point-written b (knownStart b + 3) known _ (within_word g (accept-passed accepted).known)
-      (body-written b (knownStart b) 4 (pointBytes known) _ known_at)
+      point_written b (known_start b + 3) known _ (within_word g (accept_passed accepted).known)
+      (body_written b (known_start b) 4 (point_bytes known) _ known_at)
 
-  pub grid-written : gridOf b ≡ g
-  unfolding gridAt
-  grid-written =
+  pub grid_written : grid_of b ≡ g
+  unfolding grid_at
+  grid_written =
       ap (λ (k : ℕ). cond (eqb k 7) Fine Coarse)
-      (tag-written b (verticesStart b) (tag_of g) (intsBytes vertices) _ vertices-at) ∙ tagged g
+      (tag_written b (vertices_start b) (tag_of g) (ints_bytes vertices) _ vertices_at) ∙ tagged g
     where
       tagged : (h : Grid) → cond (eqb (tag_of h) 7) Fine Coarse ≡ h
       tagged Coarse = refl
       tagged Fine = refl
 
-  pub count-written : vertexCountOf b ≡ vertexCount vertices
-  count-written = let l = accepted-list (limitOf g) vertices known accepted in omega (arith, row-length)
+  pub count_written : vertex_count_of b ≡ vertices_count vertices
+  count_written = let l = accepted_list (limit_of g) vertices known accepted in omega (arith, row_length)
 
-  pub vertices-written : verticesOf b ≡ vertices
-  vertices-written =
-      let l = accepted-list (limitOf g) vertices known accepted in
-      let n : vertexCountOf b * 3 ≡ length vertices = omega (arith, row-length) in
+  pub vertices_written : vertices_of b ≡ vertices
+  vertices_written =
+      let l = accepted_list (limit_of g) vertices known accepted in
+      let n : vertex_count_of b * 3 ≡ length vertices = omega (arith, row_length) in
       rw n
-      (ints-written b (verticesStart b + 3) vertices _
-      (λ i. fits_word g (accepted-number (limitOf g) vertices known accepted i))
-      (body-written b (verticesStart b) (tag_of g) (intsBytes vertices) _ vertices-at))
+      (ints_written b (vertices_start b + 3) vertices _
+      (λ i. fits_word g (accepted_number (limit_of g) vertices known accepted i))
+      (body_written b (vertices_start b) (tag_of g) (ints_bytes vertices) _ vertices_at))
 
   -- its fields pass, and nothing follows them
-  charset-passed : charsetCheck b ≡ Passed
-  unfolding charsetCheck isAllowed
-  charset-passed =
+  charset_passed : charset_check b ≡ Passed
+  unfolding charset_check is_allowed
+  charset_passed =
       rw (
-        field-written b charsetStart 2 (charset ∷ []) _ charset-at (isAllowed 1 1 1) (omega arith) refl,
-        charset-written,
+        field_written b charset_start 2 (charset ∷ []) _ charset_at (is_allowed 1 1 1) (omega arith) refl,
+        charset_written,
         w.coded,
       )
 
-  zone-passed : zoneCheck b ≡ Passed
-  unfolding isAllowed
-  zone-passed =
-      let n = wordBytes-length zone in
-      field-written b 0 1 (word_bytes zone) _ zone-at (isAllowed 4 4 1) (omega arith) (ap (isAllowed 4 4 1) n)
+  zone_passed : zone_check b ≡ Passed
+  unfolding is_allowed
+  zone_passed =
+      let n = word_bytes_length zone in
+      field_written b 0 1 (word_bytes zone) _ zone_at_lem (is_allowed 4 4 1) (omega arith) (ap (is_allowed 4 4 1) n)
 
-  known-passed : knownCheck b ≡ Passed
-  unfolding isAllowed
-  known-passed =
-      field-written b (knownStart b) 4 (pointBytes known) _ known_at (isAllowed 12 12 1)
-      (omega (arith, known-size)) (ap (isAllowed 12 12 1) known-size)
+  known_passed : known_check b ≡ Passed
+  unfolding is_allowed
+  known_passed =
+      field_written b (known_start b) 4 (point_bytes known) _ known_at (is_allowed 12 12 1)
+      (omega (arith, known_size)) (ap (is_allowed 12 12 1) known_size)
 
-  vertices-passed : verticesCheck b ≡ Passed
-  vertices-passed =
-      let l = accepted-list (limitOf g) vertices known accepted in
-      let n = intsBytes-length vertices in
-      rw grid-written
-      (field-written b (verticesStart b) (tag_of g) (intsBytes vertices) _ vertices-at (isAllowed 36 49152 12) row-size
-      (bounds-allowed 36 49152 12 _ (record { low = omega arith; high = omega arith; whole = omega arith })))
+  vertices_passed : vertices_check b ≡ Passed
+  vertices_passed =
+      let l = accepted_list (limit_of g) vertices known accepted in
+      let n = ints_bytes-length vertices in
+      rw grid_written
+      (field_written b (vertices_start b) (tag_of g) (ints_bytes vertices) _ vertices_at (is_allowed 36 49152 12) row_size
+      (bounds_allowed 36 49152 12 _ (record { low = omega arith; high = omega arith; whole = omega arith })))
 
-  five-written : fiveFields b ≡ Passed
-  unfolding fiveFields
-  five-written =
-      let named = field-written b nameStart 3 name _ name-at (isAllowed 1 120 1) name-size w.named in
-      rw (zone-passed, charset-passed, named, known-passed, vertices-passed)
+  five_written : five_fields b ≡ Passed
+  unfolding five_fields
+  five_written =
+      let named = field_written b name_start 3 name _ name_at_lem (is_allowed 1 120 1) name_size w.named in
+      rw (zone_passed, charset_passed, named, known_passed, vertices_passed)
 
-  sheet-ends : length b ≤ sheetEnd b
-  sheet-ends =
-      let n = ap length is ∙ sheetBytes-length zone charset name known g vertices second in
-      let e = end-second second b second_at in
-      omega (arith, second-start, known_start, intsBytes-length vertices)
+  sheet_ends : length b ≤ sheet_end b
+  sheet_ends =
+      let n = ap length is ∙ sheet_bytes-length zone charset name known g vertices second in
+      let e = end_second second b second_at in
+      omega (arith, second_start_lem, known_start_lem, ints_bytes-length vertices)
 
-  pub fields-written : fieldsCheck b ≡ Passed
-  unfolding fieldsCheck sheetFields restCheck
-  fields-written =
-      rw (five-written, second-field-written second b second_at, le-ltb (sheetEnd b) (length b) sheet-ends)
+  pub fields_written : fields_check b ≡ Passed
+  unfolding fields_check sheet_fields rest_check
+  fields_written =
+      rw (five_written, second_field_written second b second_at, le-ltb (sheet_end b) (length b) sheet_ends)
 
   -- so reading it hands back its parts
   pub second_back : second_of b ≡ second
-  second_back = second-written second b second_at second-within
+  second_back = second_written second b second_at second_within
 
-  second-check-written : sheetSecondCheck b ≡ Passed
-  second-check-written = go (is_null second) refl
+  second_check_written : sheet_second_check b ≡ Passed
+  second_check_written = go (is_null second) refl
     where
-      go : (none : Bool) → is_null second ≡ none → sheetSecondCheck b ≡ Passed
-      go true e = (second-absent b (none_written second b second_at e)).1
+      go : (none : Bool) → is_null second ≡ none → sheet_second_check b ≡ Passed
+      go true e = (second_absent b (none_written second b second_at e)).1
       go false e =
-          (second-present b (some_written second b second_at e)).1
-          ∙ rw (grid-written, vertices-written, known_written, second_back)
-          (optional-check (limitOf g) vertices known second w.paired e)
+          (second_present b (some_written second b second_at e)).1
+          ∙ rw (grid_written, vertices_written, known_written, second_back)
+          (optional_check_lem (limit_of g) vertices known second w.paired e)
 
-  written-check : sheetCheck b ≡ Passed
-  written-check =
-      sheet-second b (plain-polygon b fields-written ∙ rw (grid-written, vertices-written, known_written) accepted)
-      ∙ second-check-written
+  written_check : sheet_check b ≡ Passed
+  written_check =
+      sheet_second b (plain_polygon b fields_written ∙ rw (grid_written, vertices_written, known_written) accepted)
+      ∙ second_check_written
 
   pub reads_as : ReadsAs zone charset name known g vertices second b
   reads_as =
-      let parts = read-accepted b written-check in
+      let parts = read_accepted b written_check in
       record {
-        handed-back =
+        handed_back =
             parts
             ∙ rw (
-              zone-written,
-              charset-written,
-              name-length-written,
+              zone_written,
+              charset_written,
+              name_length_written,
               known_written,
-              count-written,
+              count_written,
               second_back,
-              grid-written,
+              grid_written,
             );
-        same_name = rw parts name-written;
-        same-vertices = vertices-written;
+        same_name = rw parts name_written;
+        same_vertices = vertices_written;
       }

@@ -1,7 +1,7 @@
 -- `answer` meets its contract.
 use mathlib.Core.Path.{◌∙◌, ap}
 use borrow.Author.Rules.{rules}
-use Rattle.zone.specs.Judge.{sheetAnswerOf}
+use Rattle.zone.specs.Judge.{sheet_answer_of}
 use Rattle.spargolutta.proofs.Handed.{handed}
 use Rattle.spargolutta.proofs.answer.Statement.{statement}
 use Rattle.spargolutta.proofs.answer.Tie as tie
@@ -17,7 +17,7 @@ returns c =
     let start = c.before.before.before in
     let f = start.ranges in
     c.judge.ensures
-    ∙ ap (sheetAnswerOf start.args.sheet.now) (c.before.query.ensures ∙ handed _ _ _ f.x f.y f.z)
+    ∙ ap (sheet_answer_of start.args.sheet.now) (c.before.query.ensures ∙ handed _ _ _ f.x f.y f.z)
 
-pub answer-spec : {M : Type 1} → statement M
-answer-spec = tie.close (tie.spec query-requires judge-requires returns)
+pub answer_spec : {M : Type 1} → statement M
+answer_spec = tie.close (tie.spec query-requires judge-requires returns)

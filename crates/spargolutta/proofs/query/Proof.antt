@@ -2,8 +2,8 @@
 use mathlib.Core.Path.{◌∙◌}
 use borrow.Author.Rules.{rules}
 use mir.Syntax.{w64}
-use Rattle.integers.proofs.Compare.{result-same}
-use Rattle.spargolutta.specs.Query.{queryOf}
+use Rattle.integers.proofs.Compare.{result_same}
+use Rattle.spargolutta.specs.Query.{query_of}
 use Rattle.spargolutta.proofs.Handed.{handed}
 use Rattle.spargolutta.proofs.query.Statement.{statement}
 use Rattle.spargolutta.proofs.query.Tie as tie
@@ -23,11 +23,11 @@ returns c =
     let y = c.before.wide2 in
     let z = c.wide3 in
     let f = c.before.before.before.ranges in
-    (λ i. queryOf
-    (result-same w64 x.result x.type-inv x.ensures i)
-    (result-same w64 y.result y.type-inv y.ensures i)
-    (result-same w64 z.result z.type-inv z.ensures i))
+    (λ i. query_of
+    (result_same w64 x.result x.type-inv x.ensures i)
+    (result_same w64 y.result y.type-inv y.ensures i)
+    (result_same w64 z.result z.type-inv z.ensures i))
     ∙ handed _ _ _ f.x f.y f.z
 
-pub query-spec : {M : Type 1} → statement M
-query-spec = tie.close (tie.spec wide-requires wide-requires-2 wide-requires-3 returns)
+pub query_spec : {M : Type 1} → statement M
+query_spec = tie.close (tie.spec wide-requires wide-requires-2 wide-requires-3 returns)

@@ -14,5 +14,5 @@ number-requires c κs = search rules
 returns : tie.Need-returns
 returns c = c.number.ensures ∙ ap number_of c.before.choose.ensures
 
-pub spg-choose-number-spec : {M : Type 1} → statement M
-spg-choose-number-spec = tie.close (tie.spec choose-requires number-requires returns)
+pub spg_choose_number_spec : {M : Type 1} → statement M
+spg_choose_number_spec = tie.close (tie.spec choose-requires number-requires returns)

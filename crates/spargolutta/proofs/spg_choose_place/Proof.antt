@@ -14,5 +14,5 @@ place-requires c κs = search rules
 returns : tie.Need-returns
 returns c = c.place.ensures ∙ ap place_of c.before.choose.ensures
 
-pub spg-choose-place-spec : {M : Type 1} → statement M
-spg-choose-place-spec = tie.close (tie.spec choose-requires place-requires returns)
+pub spg_choose_place_spec : {M : Type 1} → statement M
+spg_choose_place_spec = tie.close (tie.spec choose-requires place-requires returns)

@@ -14,5 +14,5 @@ count-requires c κs = search rules
 returns : tie.Need-returns
 returns c = c.count.ensures ∙ ap count_of c.before.feed-answer.ensures
 
-pub spg-feed-count-spec : {M : Type 1} → statement M
-spg-feed-count-spec = tie.close (tie.spec feed-answer-requires count-requires returns)
+pub spg_feed_count_spec : {M : Type 1} → statement M
+spg_feed_count_spec = tie.close (tie.spec feed-answer-requires count-requires returns)

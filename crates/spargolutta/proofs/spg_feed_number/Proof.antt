@@ -19,5 +19,5 @@ returns c =
     let f = c.before.before.before.feed.ensures in
     (c.number.ensures ∙ ap number_of f.0, f.1)
 
-pub spg-feed-number-spec : {M : Type 1} → statement M
-spg-feed-number-spec = tie.close (tie.spec feed-requires number-requires same_length returns)
+pub spg_feed_number_spec : {M : Type 1} → statement M
+spg_feed_number_spec = tie.close (tie.spec feed-requires number-requires same_length returns)

@@ -14,5 +14,5 @@ place-requires c κs = search rules
 returns : tie.Need-returns
 returns c = c.place.ensures ∙ ap place_of c.before.feed-answer.ensures
 
-pub spg-feed-place-spec : {M : Type 1} → statement M
-spg-feed-place-spec = tie.close (tie.spec feed-answer-requires place-requires returns)
+pub spg_feed_place_spec : {M : Type 1} → statement M
+spg_feed_place_spec = tie.close (tie.spec feed-answer-requires place-requires returns)

@@ -2,7 +2,7 @@
 use mathlib.Core.Path.{◌∙◌, ap}
 use borrow.Author.Rules.{rules}
 use Rattle.answer.specs.Answer.{place_of}
-use Rattle.spargolutta.proofs.Handed.{handed-answer}
+use Rattle.spargolutta.proofs.Handed.{handed_answer}
 use Rattle.spargolutta.proofs.spg_judge_place.Statement.{statement}
 use Rattle.spargolutta.proofs.spg_judge_place.Tie as tie
 
@@ -17,7 +17,7 @@ returns c =
     let start = c.before.before.before in
     let f = start.ranges in
     c.place.ensures
-    ∙ ap place_of (c.before.answer.ensures ∙ handed-answer start.args.sheet.now _ _ _ f.x f.y f.z)
+    ∙ ap place_of (c.before.answer.ensures ∙ handed_answer start.args.sheet.now _ _ _ f.x f.y f.z)
 
-pub spg-judge-place-spec : {M : Type 1} → statement M
-spg-judge-place-spec = tie.close (tie.spec answer-requires place-requires returns)
+pub spg_judge_place_spec : {M : Type 1} → statement M
+spg_judge_place_spec = tie.close (tie.spec answer-requires place-requires returns)

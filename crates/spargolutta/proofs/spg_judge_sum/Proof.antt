@@ -2,9 +2,9 @@
 use mathlib.Core.Path.{◌∙◌, ap}
 use borrow.Author.Rules.{rules}
 use mir.Syntax.{w32}
-use Rattle.integers.proofs.Compare.{result-same}
+use Rattle.integers.proofs.Compare.{result_same}
 use Rattle.answer.specs.Answer.{sum_of}
-use Rattle.spargolutta.proofs.Handed.{handed-answer}
+use Rattle.spargolutta.proofs.Handed.{handed_answer}
 use Rattle.spargolutta.proofs.spg_judge_sum.Statement.{statement}
 use Rattle.spargolutta.proofs.spg_judge_sum.Tie as tie
 
@@ -19,8 +19,8 @@ returns c =
     let start = c.before.before.before in
     let f = start.ranges in
     let r = c.sum in
-    result-same w32 r.result r.type-inv r.ensures
-    ∙ ap sum_of (c.before.answer.ensures ∙ handed-answer start.args.sheet.now _ _ _ f.x f.y f.z)
+    result_same w32 r.result r.type-inv r.ensures
+    ∙ ap sum_of (c.before.answer.ensures ∙ handed_answer start.args.sheet.now _ _ _ f.x f.y f.z)
 
-pub spg-judge-sum-spec : {M : Type 1} → statement M
-spg-judge-sum-spec = tie.close (tie.spec answer-requires sum-requires returns)
+pub spg_judge_sum_spec : {M : Type 1} → statement M
+spg_judge_sum_spec = tie.close (tie.spec answer-requires sum-requires returns)

@@ -14,5 +14,5 @@ place-requires c κs = search rules
 returns : tie.Need-returns
 returns c = c.place.ensures ∙ ap place_of c.before.feed-answer.ensures
 
-pub spg-book-feed-place-spec : {M : Type 1} → statement M
-spg-book-feed-place-spec = tie.close (tie.spec feed-answer-requires place-requires returns)
+pub spg_book_feed_place_spec : {M : Type 1} → statement M
+spg_book_feed_place_spec = tie.close (tie.spec feed-answer-requires place-requires returns)

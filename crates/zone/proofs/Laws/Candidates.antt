@@ -1,6 +1,6 @@
--- Candidates in bytes (document 02, P4). Proved, in order: candidate-point (candidate i stands at byte 12i),
--- candidates-whole, candidates-count; chosen-accepted (choosing, where the polygon is accepted), choose-short,
--- choose-passed, choose-failed (how choosing by a sheet ends).
+-- Candidates in bytes (document 02, P4). Proved, in order: candidate_point (candidate i stands at byte 12i),
+-- candidates_whole, candidates_count; chosen_accepted (choosing, where the polygon is accepted), choose_short,
+-- choose_passed, choose_failed (how choosing by a sheet ends).
 use mathlib.Core.Path.{◌≡◌, sym, ap, ◌∙◌}
 use mathlib.Core.Bool.{true}
 use mathlib.Core.List.{List}
@@ -10,67 +10,67 @@ use borrow.Author.Tests.{eq-eqb, ne_eqb}
 use lib.IntN.{ℤ}
 use lib.ListN.{length}
 use Rattle.sphere.specs.declared.point.Point.{Point}
-use Rattle.sphere.specs.Point.{limitOf}
-use Rattle.big_endian.specs.Bytes.{pointAt}
-use Rattle.big_endian.proofs.Laws.Rows.{intsAt-length}
+use Rattle.sphere.specs.Point.{limit_of}
+use Rattle.big_endian.specs.Bytes.{point_at}
+use Rattle.big_endian.proofs.Laws.Rows.{ints_at-length}
 use Rattle.answer.specs.declared.Found.{Found}
 use Rattle.answer.specs.declared.Answer.TheVariants.{Refused}
 use Rattle.answer.specs.declared.Check.TheVariants.{Passed, Failed}
-use Rattle.answer.specs.Search.{firstFrom}
-use Rattle.polygon.specs.Vertices.{vertexCount, vertexAt}
-use Rattle.polygon.specs.Checks.{acceptCheck}
-use Rattle.polygon.specs.Pair.{isSecond, is_whole, chosen, earliestOf, chooseOf}
+use Rattle.answer.specs.Search.{first_from}
+use Rattle.polygon.specs.Vertices.{vertices_count, vertex_at}
+use Rattle.polygon.specs.Checks.{accept_check}
+use Rattle.polygon.specs.Pair.{is_second, is_whole, chosen, earliest_of, choose_of}
 use Rattle.answer.proofs.Laws.Chain.{after_then}
-use Rattle.fields.specs.Fields.{gridOf, fieldsCheck}
-use Rattle.sheet.specs.Sheet.{known_of, verticesOf, plainCheck}
-use Rattle.zone.specs.Choose.{candidateCount, candidatesOf, wholeCheck, sheetChooseOf}
-use Rattle.sheet.proofs.Laws.Points.{row-point}
-use Rattle.sheet.proofs.Laws.Reads.{plain-passed}
+use Rattle.fields.specs.Fields.{grid_of, fields_check}
+use Rattle.sheet.specs.Sheet.{known_of, vertices_of, plain_check}
+use Rattle.zone.specs.Choose.{candidate_count, candidates_of, whole_check, sheet_choose_of}
+use Rattle.sheet.proofs.Laws.Points.{row_point}
+use Rattle.sheet.proofs.Laws.Reads.{plain_passed}
 
 -- ---- candidate i
-pub candidate-point : (candidates : List ℕ) (i : ℕ) → i < candidateCount candidates →
-    vertexAt (candidatesOf candidates) i ≡ pointAt candidates (i * 12)
-candidate-point candidates i h =
+pub candidate_point : (candidates : List ℕ) (i : ℕ) → i < candidate_count candidates →
+    vertex_at (candidates_of candidates) i ≡ point_at candidates (i * 12)
+candidate_point candidates i h =
     let front : 0 + i * 12 ≡ i * 12 = omega arith in
-    row-point candidates 0 (candidateCount candidates) i h ∙ ap (pointAt candidates) front
+    row_point candidates 0 (candidate_count candidates) i h ∙ ap (point_at candidates) front
 
 -- ---- all of them
-candidates-length : (candidates : List ℕ) → length (candidatesOf candidates) ≡ candidateCount candidates * 3
-candidates-length candidates = intsAt-length candidates 0 (candidateCount candidates * 3)
+candidates_length : (candidates : List ℕ) → length (candidates_of candidates) ≡ candidate_count candidates * 3
+candidates_length candidates = ints_at-length candidates 0 (candidate_count candidates * 3)
 
-candidates-whole : (candidates : List ℕ) → is_whole (candidatesOf candidates) ≡ true
-candidates-whole candidates =
-    eq-eqb (length (candidatesOf candidates) % 3) 0 (omega (arith, candidates-length candidates))
+candidates_whole : (candidates : List ℕ) → is_whole (candidates_of candidates) ≡ true
+candidates_whole candidates =
+    eq-eqb (length (candidates_of candidates) % 3) 0 (omega (arith, candidates_length candidates))
 
-candidates-count : (candidates : List ℕ) → vertexCount (candidatesOf candidates) ≡ candidateCount candidates
-candidates-count candidates = omega (arith, candidates-length candidates)
+candidates_count : (candidates : List ℕ) → vertices_count (candidates_of candidates) ≡ candidate_count candidates
+candidates_count candidates = omega (arith, candidates_length candidates)
 
-pub chosen-accepted :
-    (limit : ℕ) (vs : List ℤ) (X : Point) (candidates : List ℕ) → acceptCheck limit vs X ≡ Passed → {found : Found} →
-    firstFrom (λ i. isSecond limit vs X (vertexAt (candidatesOf candidates) i)) 0 (candidateCount candidates) ≡ found →
-    chooseOf limit vs X (candidatesOf candidates) ≡ chosen found
-unfolding chooseOf earliestOf
-chosen-accepted limit vs X candidates ok e =
-    rw (candidates-whole candidates, ok, candidates-count candidates) (ap chosen e)
+pub chosen_accepted :
+    (limit : ℕ) (vs : List ℤ) (X : Point) (candidates : List ℕ) → accept_check limit vs X ≡ Passed → {found : Found} →
+    first_from (λ i. is_second limit vs X (vertex_at (candidates_of candidates) i)) 0 (candidate_count candidates) ≡ found →
+    choose_of limit vs X (candidates_of candidates) ≡ chosen found
+unfolding choose_of earliest_of
+chosen_accepted limit vs X candidates ok e =
+    rw (candidates_whole candidates, ok, candidates_count candidates) (ap chosen e)
 
 -- ---- how choosing by a sheet ends
 module _ (b candidates : List ℕ) where
-  pub choose-short : (length candidates % 12 ≡ 0 → ⊥) → sheetChooseOf b candidates ≡ Refused 10 0
-  unfolding sheetChooseOf wholeCheck
-  choose-short h = rw (ne_eqb (length candidates % 12) 0 h)
+  pub choose_short : (length candidates % 12 ≡ 0 → ⊥) → sheet_choose_of b candidates ≡ Refused 10 0
+  unfolding sheet_choose_of whole_check
+  choose_short h = rw (ne_eqb (length candidates % 12) 0 h)
 
   module _ (whole : length candidates % 12 ≡ 0) where
-    whole-passed : wholeCheck candidates ≡ Passed
-    unfolding wholeCheck
-    whole-passed = rw (eq-eqb (length candidates % 12) 0 whole)
+    whole_passed : whole_check candidates ≡ Passed
+    unfolding whole_check
+    whole_passed = rw (eq-eqb (length candidates % 12) 0 whole)
 
-    pub choose-passed : plainCheck b ≡ Passed →
-        sheetChooseOf b candidates ≡ chooseOf (limitOf (gridOf b)) (verticesOf b) (known_of b) (candidatesOf candidates)
-    unfolding sheetChooseOf
-    choose-passed e = rw (whole-passed, (plain-passed b e).0)
+    pub choose_passed : plain_check b ≡ Passed →
+        sheet_choose_of b candidates ≡ choose_of (limit_of (grid_of b)) (vertices_of b) (known_of b) (candidates_of candidates)
+    unfolding sheet_choose_of
+    choose_passed e = rw (whole_passed, (plain_passed b e).0)
 
-    pub choose-failed : {n p : ℕ} → plainCheck b ≡ Failed n p → sheetChooseOf b candidates ≡ Refused n p
-    unfolding sheetChooseOf chooseOf plainCheck
-    choose-failed e =
-        let accept = acceptCheck (limitOf (gridOf b)) (verticesOf b) (known_of b) in
-        rw (whole-passed, candidates-whole candidates) (sym (after_then (fieldsCheck b) accept _) ∙ rw e)
+    pub choose_failed : {n p : ℕ} → plain_check b ≡ Failed n p → sheet_choose_of b candidates ≡ Refused n p
+    unfolding sheet_choose_of choose_of plain_check
+    choose_failed e =
+        let accept = accept_check (limit_of (grid_of b)) (vertices_of b) (known_of b) in
+        rw (whole_passed, candidates_whole candidates) (sym (after_then (fields_check b) accept _) ∙ rw e)

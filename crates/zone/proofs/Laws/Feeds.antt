@@ -1,43 +1,43 @@
 -- How a feed by a sheet's bytes ends, by the outcome of its checks.
--- Proved, in order: feed-by-size, feed-by-sheet; Ends, feed-ends (its answer and its result buffer).
+-- Proved, in order: feed_by_size, feed_by_sheet; Ends, feed_ends (its answer and its result buffer).
 use mathlib.Core.Path.{◌≡◌, ap}
 use mathlib.Core.List.{List}
 use Prim.Native.Nat.{ℕ}
 use lib.ListN.{length}
-use Rattle.sphere.specs.Point.{limitOf}
+use Rattle.sphere.specs.Point.{limit_of}
 use Rattle.answer.specs.declared.Answer.TheVariants.{Done}
 use Rattle.answer.specs.declared.Check.{Check}
 use Rattle.answer.specs.declared.Check.TheVariants.{Passed, Failed}
-use Rattle.answer.specs.Answer.{answerAfter}
-use Rattle.answer.specs.Buffer.{bufferAfter}
-use Rattle.feed.specs.Feed.{sizeCheck, feedBytes}
-use Rattle.fields.specs.Fields.{gridOf}
-use Rattle.sheet.specs.Sheet.{known_of, verticesOf, second_of, sheetCheck}
-use Rattle.zone.specs.Judge.{sheetFeedCheck, sheetFeedOf, sheetResultsAfter}
+use Rattle.answer.specs.Answer.{answer_after}
+use Rattle.answer.specs.Buffer.{buffer_after}
+use Rattle.feed.specs.Feed.{size_check, feed_bytes}
+use Rattle.fields.specs.Fields.{grid_of}
+use Rattle.sheet.specs.Sheet.{known_of, vertices_of, second_of, sheet_check}
+use Rattle.zone.specs.Judge.{sheet_feed_check, sheet_feed_of, sheet_results_after}
 
 module _ (b queries : List ℕ) where
-  pub feed-by-size : (room : ℕ) {n p : ℕ} → sizeCheck queries room ≡ Failed n p →
-      sheetFeedCheck b queries room ≡ Failed n p
-  unfolding sheetFeedCheck
-  feed-by-size room e = rw e
+  pub feed_by_size : (room : ℕ) {n p : ℕ} → size_check queries room ≡ Failed n p →
+      sheet_feed_check b queries room ≡ Failed n p
+  unfolding sheet_feed_check
+  feed_by_size room e = rw e
 
-  pub feed-by-sheet : (room : ℕ) → sizeCheck queries room ≡ Passed → sheetFeedCheck b queries room ≡ sheetCheck b
-  unfolding sheetFeedCheck
-  feed-by-sheet room e = rw e
+  pub feed_by_sheet : (room : ℕ) → size_check queries room ≡ Passed → sheet_feed_check b queries room ≡ sheet_check b
+  unfolding sheet_feed_check
+  feed_by_sheet room e = rw e
 
   pub record Ends (buffer : List ℕ) (check : Check) : Type 0 where
-    pub answered : sheetFeedOf b queries (length buffer) ≡ answerAfter check (Done 0)
-    pub filled : sheetResultsAfter b queries buffer
-        ≡ bufferAfter check (feedBytes (limitOf (gridOf b)) (verticesOf b) (known_of b) (second_of b) queries) buffer
+    pub answered : sheet_feed_of b queries (length buffer) ≡ answer_after check (Done 0)
+    pub filled : sheet_results_after b queries buffer
+        ≡ buffer_after check (feed_bytes (limit_of (grid_of b)) (vertices_of b) (known_of b) (second_of b) queries) buffer
 
-  pub feed-ends : (buffer : List ℕ) {check : Check} → sheetFeedCheck b queries (length buffer) ≡ check →
+  pub feed_ends : (buffer : List ℕ) {check : Check} → sheet_feed_check b queries (length buffer) ≡ check →
       Ends buffer check
-  unfolding sheetFeedOf sheetResultsAfter
-  feed-ends buffer e = record {
-    answered = ap (λ (c : Check). answerAfter c (Done 0)) e;
+  unfolding sheet_feed_of sheet_results_after
+  feed_ends buffer e = record {
+    answered = ap (λ (c : Check). answer_after c (Done 0)) e;
     filled =
         ap
         (λ (c : Check).
-        bufferAfter c (feedBytes (limitOf (gridOf b)) (verticesOf b) (known_of b) (second_of b) queries) buffer)
+        buffer_after c (feed_bytes (limit_of (grid_of b)) (vertices_of b) (known_of b) (second_of b) queries) buffer)
         e;
   }

@@ -1,42 +1,42 @@
--- Scratch space for a sheet's boxes. Proved, in order: any-boxes (768 numbers, for any sheet), sized-boxes, few-boxes
--- (48, for one of at most 3,072 bytes), middle-boxes (258, for one of at most 16,384).
+-- Scratch space for a sheet's boxes. Proved, in order: any_boxes (768 numbers, for any sheet), sized_boxes, few_boxes
+-- (48, for one of at most 3,072 bytes), middle_boxes (258, for one of at most 16,384).
 use mathlib.Core.List.{List}
 use Prim.Native.Nat.{ℕ, ◌+◌, ◌*◌, ◌≤◌}
 use native.Mathlib.Omega.{arith}
 use lib.IntN.{ℤ}
 use lib.ListN.{length}
-use Rattle.big_endian.proofs.Laws.Rows.{intsAt-length}
-use Rattle.polygon.specs.Vertices.{vertexCount}
-use Rattle.search.specs.Boxes.{runCount}
-use Rattle.fields.specs.Fields.{verticesStart}
-use Rattle.fields.proofs.Laws.Fields.{passed-spans}
-use Rattle.judging.proofs.Laws.Accept.{room-any}
-use Rattle.sheet.specs.Sheet.{vertexCountOf, verticesOf}
+use Rattle.big_endian.proofs.Laws.Rows.{ints_at-length}
+use Rattle.polygon.specs.Vertices.{vertices_count}
+use Rattle.search.specs.Boxes.{run_count}
+use Rattle.fields.specs.Fields.{vertices_start}
+use Rattle.fields.proofs.Laws.Fields.{passed_spans}
+use Rattle.judging.proofs.Laws.Accept.{room_any}
+use Rattle.sheet.specs.Sheet.{vertex_count_of, vertices_of}
 use Rattle.sheet.specs.Open.{BoxesFor}
 
-pub any-boxes : (b : List ℕ) (boxes : List ℤ) → 768 ≤ length boxes → BoxesFor b boxes
-any-boxes b boxes h = record { enough = λ e. room-any (verticesOf b) boxes h }
+pub any_boxes : (b : List ℕ) (boxes : List ℤ) → 768 ≤ length boxes → BoxesFor b boxes
+any_boxes b boxes h = record { enough = λ e. room_any (vertices_of b) boxes h }
 
-more-runs : (m n : ℕ) → m ≤ n → runCount m ≤ runCount n
-unfolding runCount
-more-runs m n h = omega arith
+more_runs : (m n : ℕ) → m ≤ n → run_count m ≤ run_count n
+unfolding run_count
+more_runs m n h = omega arith
 
 -- A vertex has twelve bytes.
-sized-boxes : (b : List ℕ) (boxes : List ℤ) (n : ℕ) → length b ≤ n * 12 → runCount n * 6 ≤ length boxes →
+sized_boxes : (b : List ℕ) (boxes : List ℤ) (n : ℕ) → length b ≤ n * 12 → run_count n * 6 ≤ length boxes →
     BoxesFor b boxes
-sized-boxes b boxes n short h = record {
+sized_boxes b boxes n short h = record {
   enough = λ e.
-      let spans = passed-spans b e in
-      let size = intsAt-length b (verticesStart b + 3) (vertexCountOf b * 3) in
-      let few : vertexCount (verticesOf b) ≤ n =
+      let spans = passed_spans b e in
+      let size = ints_at-length b (vertices_start b + 3) (vertex_count_of b * 3) in
+      let few : vertices_count (vertices_of b) ≤ n =
       omega (arith, size, spans.second_at, spans.ends, spans.known_at, spans.name.low) in
-      record { enough = λ _. omega (arith, more-runs (vertexCount (verticesOf b)) n few) };
+      record { enough = λ _. omega (arith, more_runs (vertices_count (vertices_of b)) n few) };
 }
 
-pub few-boxes : (b : List ℕ) (boxes : List ℤ) → length b ≤ 3072 → 48 ≤ length boxes → BoxesFor b boxes
-unfolding runCount
-few-boxes b boxes short h = sized-boxes b boxes 256 (omega arith) (omega arith)
+pub few_boxes : (b : List ℕ) (boxes : List ℤ) → length b ≤ 3072 → 48 ≤ length boxes → BoxesFor b boxes
+unfolding run_count
+few_boxes b boxes short h = sized_boxes b boxes 256 (omega arith) (omega arith)
 
-pub middle-boxes : (b : List ℕ) (boxes : List ℤ) → length b ≤ 16384 → 258 ≤ length boxes → BoxesFor b boxes
-unfolding runCount
-middle-boxes b boxes short h = sized-boxes b boxes 1366 (omega arith) (omega arith)
+pub middle_boxes : (b : List ℕ) (boxes : List ℤ) → length b ≤ 16384 → 258 ≤ length boxes → BoxesFor b boxes
+unfolding run_count
+middle_boxes b boxes short h = sized_boxes b boxes 1366 (omega arith) (omega arith)

@@ -1,7 +1,7 @@
 -- `point::is_outside` meets its contract.
 use mathlib.Core.Path.{◌≡◌, refl, sym}
-use Rattle.sphere.specs.Point.{isFar}
-use Rattle.angles.specs.Point.{isOutside}
+use Rattle.sphere.specs.Point.{is_far}
+use Rattle.angles.specs.Point.{is_outside}
 use Rattle.angles.proofs.Numbers.{words_of, widened, called}
 use borrow.Author.Rules.{rules}
 use Rattle.angles.proofs.point.is_outside.Statement.{statement}
@@ -14,12 +14,12 @@ is-past-requires : tie.Need-is-past-requires
 is-past-requires c κs = search rules
 
 returns : tie.Need-returns
-unfolding isOutside
+unfolding is_outside
 returns c =
     let s = c.before.before.before in
     let w = words_of s.before.before.args.p s.struct-told2.given in
     let a = c.before.before.wide in
-    rw (called (isFar 1800000000) _ a.result (widened _ _ w.at-lon a.type-inv a.ensures)
+    rw (called (is_far 1800000000) _ a.result (widened _ _ w.at_lon a.type-inv a.ensures)
     c.before.is-past.ensures
     c.if1.true)
 
@@ -30,21 +30,21 @@ is-past-requires-2 : tie.Need-is-past-requires-2
 is-past-requires-2 c κs = search rules
 
 returns-2 : tie.Need-returns-2
-unfolding isOutside
+unfolding is_outside
 returns-2 c =
     let j = c.before.before in
     let s = j.before.before.before in
     let w = words_of s.before.before.args.p s.struct-told2.given in
     let a = j.before.before.wide in
     let b = c.before.wide2 in
-    rw (called (isFar 1800000000) _ a.result (widened _ _ w.at-lon a.type-inv a.ensures)
+    rw (called (is_far 1800000000) _ a.result (widened _ _ w.at_lon a.type-inv a.ensures)
     j.before.is-past.ensures
     j.if1.false)
-    (sym (called (isFar 900000000) _ b.result (widened _ _ w.at-lat b.type-inv b.ensures)
+    (sym (called (is_far 900000000) _ b.result (widened _ _ w.at_lat b.type-inv b.ensures)
     c.is-past2.ensures refl))
 
-pub is-outside-spec : {M : Type 1} → statement M
-is-outside-spec =
+pub is_outside_spec : {M : Type 1} → statement M
+is_outside_spec =
     tie.close
     (tie.spec
     wide-requires

@@ -9,8 +9,8 @@ use lib.Signed.{lt_z}
 use mir.Syntax.{w64}
 use mir.Val.{SFits, to_z, of_z}
 use mir.ValLaws.{to_z_pos, to_z-of_z}
-use Rattle.integers.proofs.Compare.{size-test}
-use Rattle.sphere.specs.Point.{isFar}
+use Rattle.integers.proofs.Compare.{size_test}
+use Rattle.sphere.specs.Point.{is_far}
 use Rattle.angles.proofs.point.is_past.Statement.{statement}
 use Rattle.angles.proofs.point.is_past.Tie as tie
 
@@ -24,10 +24,10 @@ least_fits : (n : ℕ) → 0 < n → n ≤ 4294967295 → SFits w64 (pos 0 -ℤ 
 least_fits zero g h = absurd (none g)
 least_fits (suc n) g h = rw (minus (suc n)) (record { sfits = omega arith })
 
-far-test : (n : ℕ) → 0 < n → (k : ℤ) → (lt_z k (pos 0 -ℤ pos n) || lt_z (pos n) k) ≡ isFar n k
-unfolding isFar
-far-test zero g k = absurd (none g)
-far-test (suc n) g k = rw (minus (suc n)) (size-test n k)
+far_test : (n : ℕ) → 0 < n → (k : ℤ) → (lt_z k (pos 0 -ℤ pos n) || lt_z (pos n) k) ≡ is_far n k
+unfolding is_far
+far_test zero g k = absurd (none g)
+far_test (suc n) g k = rw (minus (suc n)) (size_test n k)
 
 module _ (n : ℕ) (k : ℤ) (more : 0 < n) (small : n ≤ 4294967295) (given : SFits w64 k) where
   most : to_z w64 n ≡ pos n
@@ -43,11 +43,11 @@ module _ (n : ℕ) (k : ℤ) (more : 0 < n) (small : n ≤ 4294967295) (given : 
   number = to_z-of_z w64 k given
 
   module _ (t : Bool) (test : lt_z (to_z w64 (of_z w64 k)) (to_z w64 (of_z w64 (to_z w64 0 -ℤ to_z w64 n))) ≡ t) where
-    pub far : (t || lt_z (pos n) k) ≡ isFar n k
-    far = ap (λ u. u || lt_z (pos n) k) (sym test ∙ ap₂ lt_z number same) ∙ far-test n more k
+    pub far : (t || lt_z (pos n) k) ≡ is_far n k
+    far = ap (λ u. u || lt_z (pos n) k) (sym test ∙ ap₂ lt_z number same) ∙ far_test n more k
 
-    pub far-else : (t || lt_z (to_z w64 n) (to_z w64 (of_z w64 k))) ≡ isFar n k
-    far-else = ap (λ b. t || b) (ap₂ lt_z most number) ∙ far
+    pub far_else : (t || lt_z (to_z w64 n) (to_z w64 (of_z w64 k))) ≡ is_far n k
+    far_else = ap (λ b. t || b) (ap₂ lt_z most number) ∙ far
 
 cast-m : tie.Need-overflow-cast-m
 cast-m c = search rules
@@ -63,7 +63,7 @@ returns c =
 returns-2 : tie.Need-returns-2
 returns-2 c =
     let i = c.before in
-    far-else i.args.most i.args.k i.requires.0 i.requires.1 i.ranges.k false c.if1.false
+    far_else i.args.most i.args.k i.requires.0 i.requires.1 i.ranges.k false c.if1.false
 
-pub is-past-spec : {M : Type 1} → statement M
-is-past-spec = tie.close (tie.spec cast-m sub-if1 returns returns-2)
+pub is_past_spec : {M : Type 1} → statement M
+is_past_spec = tie.close (tie.spec cast-m sub-if1 returns returns-2)

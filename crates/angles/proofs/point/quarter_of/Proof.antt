@@ -15,5 +15,5 @@ returns c = (rw (le-leb _ _ c.if1.true), c.if1.true)
 returns-2 : tie.Need-returns-2
 returns-2 c = (rw (lt-leb _ _ c.if1.false), omega arith)
 
-pub quarter-of-spec : {M : Type 1} → statement M
-quarter-of-spec = tie.close (tie.spec sub-result returns returns-2)
+pub quarter_of_spec : {M : Type 1} → statement M
+quarter_of_spec = tie.close (tie.spec sub-result returns returns-2)

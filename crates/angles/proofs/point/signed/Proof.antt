@@ -40,5 +40,5 @@ returns c = rw (
 returns-2 : tie.Need-returns-2
 returns-2 c = rw (c.if1.false, small c.before.args.n c.before.requires)
 
-pub signed-spec : {M : Type 1} → statement M
-signed-spec = tie.close (tie.spec cast-m sub-result returns returns-2)
+pub signed_spec : {M : Type 1} → statement M
+signed_spec = tie.close (tie.spec cast-m sub-result returns returns-2)

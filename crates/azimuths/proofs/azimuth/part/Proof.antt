@@ -11,14 +11,14 @@ module _ (b d : ℕ) (some : 0 < d) (least : b ≤ d) where
   abbrev n : ℕ
   n = b * 512
 
-  quotient-most : n / d ≤ 512
-  quotient-most = div-le_of_le-mul d (omega arith)
+  quotient_most : n / d ≤ 512
+  quotient_most = div-le_of_le-mul d (omega arith)
 
   remainder : n % d < d
   remainder = mod-lt n some
 
-  rest-most : n % d * 32 / d ≤ 32
-  rest-most = div-le_of_le-mul d (omega (arith, remainder))
+  rest_most : n % d * 32 / d ≤ 32
+  rest_most = div-le_of_le-mul d (omega (arith, remainder))
 
   two_steps : n / d * 32 + n % d * 32 / d ≡ b * 16384 / d
   two_steps =
@@ -41,7 +41,7 @@ div-result-2 : tie.Need-nonzero-div-result-2
 div-result-2 c = search rules
 
 mul-result-2 : tie.Need-overflow-mul-result-2
-mul-result-2 c = let s = c.before in omega (arith, quotient-most s.args.b s.args.d s.requires.0 s.requires.1)
+mul-result-2 c = let s = c.before in omega (arith, quotient_most s.args.b s.args.d s.requires.0 s.requires.1)
 
 rem-result : tie.Need-nonzero-rem-result
 rem-result c = search rules
@@ -55,14 +55,14 @@ div-result-3 c = search rules
 add-result : tie.Need-overflow-add-result
 add-result c =
     let s = c.before in
-    let q = quotient-most s.args.b s.args.d s.requires.0 s.requires.1 in
-    omega (arith, rest-most s.args.b s.args.d s.requires.0 s.requires.1)
+    let q = quotient_most s.args.b s.args.d s.requires.0 s.requires.1 in
+    omega (arith, rest_most s.args.b s.args.d s.requires.0 s.requires.1)
 
 returns-2 : tie.Need-returns-2
 returns-2 c = let s = c.before in two_steps s.args.b s.args.d s.requires.0 s.requires.1
 
-pub part-spec : {M : Type 1} → statement M
-part-spec =
+pub part_spec : {M : Type 1} → statement M
+part_spec =
     tie.close
     (tie.spec
     mul-result

@@ -42,8 +42,8 @@ gap-requires-2 c κs = search rules
 returns : tie.Need-returns
 returns c = cc
 
-pub is-missed-spec : {M : Type 1} → statement M
-is-missed-spec =
+pub is_missed_spec : {M : Type 1} → statement M
+is_missed_spec =
     tie.close
     (tie.spec
     mul_wide

@@ -36,8 +36,8 @@ wide-requires-2 c κs = search rules
 returns : tie.Need-returns
 returns c = cc
 
-pub is-missed-at-spec : {M : Type 1} → statement M
-is-missed-at-spec =
+pub is_missed_at_spec : {M : Type 1} → statement M
+is_missed_at_spec =
     tie.close
     (tie.spec
     mul_wide

@@ -36,8 +36,8 @@ wide-requires-2 c κs = search rules
 returns : tie.Need-returns
 returns c = (cc, cc)
 
-pub passage-at-spec : {M : Type 1} → statement M
-passage-at-spec =
+pub passage_at_spec : {M : Type 1} → statement M
+passage_at_spec =
     tie.close
     (tie.spec
     mul_wide

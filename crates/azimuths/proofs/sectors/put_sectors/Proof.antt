@@ -3,15 +3,15 @@ use mathlib.Core.Path.{◌∙◌, ap}
 use Prim.Native.Nat.{◌-◌}
 use native.Mathlib.Omega.{arith}
 use lib.ListN.{length-set}
-use Rattle.sphere.specs.Point.{fine, limitOf}
+use Rattle.sphere.specs.Point.{fine, limit_of}
 use Rattle.sphere.proofs.Laws.Plane.{grid→fine}
 use Rattle.polygon.specs.Accepted.{Listed, Gridded}
-use Rattle.polygon.proofs.Laws.Checks.{Reference, reference-accepted, gridded-fine}
-use Rattle.polygon.proofs.Laws.Edges.{end-within}
-use Rattle.azimuths.specs.Azimuth.{azimuthOf}
+use Rattle.polygon.proofs.Laws.Checks.{Reference, reference_accepted, gridded_fine}
+use Rattle.polygon.proofs.Laws.Edges.{end_within}
+use Rattle.azimuths.specs.Azimuth.{azimuth_of}
 use Rattle.azimuths.specs.Sectors.{FrameGridded}
-use Rattle.azimuths.proofs.Laws.Sectors.{turn-short}
-use Rattle.azimuths.proofs.Laws.SectorsTo.{SectorsTo, sectors-start, sectors-step, sectors-end}
+use Rattle.azimuths.proofs.Laws.Sectors.{turn_short}
+use Rattle.azimuths.proofs.Laws.SectorsTo.{SectorsTo, sectors_start, sectors_step, sectors_end}
 use Rattle.azimuths.proofs.sectors.put_sectors.Statement.{statement}
 use Rattle.azimuths.proofs.sectors.put_sectors.Tie as tie
 
@@ -24,14 +24,14 @@ decreases-loop grid vertices known frame sectors₀ n first₀ i₀ sectors firs
 
 -- The polygon and the frame, on either grid.
 module _ (s : tie.Start invariant-loop decreases-loop) where
-  reference : Reference (limitOf s.args.grid) s.args.vertices.now s.args.known
-  reference = reference-accepted _ _ _ s.requires.0
+  reference : Reference (limit_of s.args.grid) s.args.vertices.now s.args.known
+  reference = reference_accepted _ _ _ s.requires.0
 
   listed : Listed s.args.vertices.now
   listed = reference.accepted.listed
 
   gridded : Gridded fine s.args.vertices.now
-  gridded = gridded-fine s.args.grid reference.accepted.gridded
+  gridded = gridded_fine s.args.grid reference.accepted.gridded
 
   framed : FrameGridded s.args.frame
   framed =
@@ -50,8 +50,8 @@ azimuth-requires c κs =
 loop-holds : tie.Need-loop-init invariant-loop decreases-loop
 loop-holds c =
     let s = c.before.before.before in
-    sectors-start c.azimuth.ensures.1
-    (c.azimuth.ensures.0 ∙ ap (azimuthOf s.args.frame) c.before.vertex-at.ensures)
+    sectors_start c.azimuth.ensures.1
+    (c.azimuth.ensures.0 ∙ ap (azimuth_of s.args.frame) c.before.vertex-at.ensures)
 
 end-of-requires : tie.Need-end-of-requires invariant-loop decreases-loop
 end-of-requires c κs = c.loop-test.true
@@ -60,7 +60,7 @@ azimuth-requires-2 : tie.Need-azimuth-requires-2 invariant-loop decreases-loop
 azimuth-requires-2 c κs =
     let t = c.before in
     let s = t.before.before.before.before.before in
-    record { frame = framed s; point = end-within (gridded s) t.loop-test.true c.end_of_lem.ensures }
+    record { frame = framed s; point = end_within (gridded s) t.loop-test.true c.end_of_lem.ensures }
 
 turns-left-requires : tie.Need-turns-left-requires invariant-loop decreases-loop
 turns-left-requires c κs =
@@ -76,7 +76,7 @@ sector-of-requires c κs =
     let inv = t.before.loop.invariant in
     let i = t.loop-test.true in
     let second = az.azimuth2.ensures in
-    let short = turn-short s.requires.1 _ _ ((reference s).off-circle _ i) in (
+    let short = turn_short s.requires.1 _ _ ((reference s).off_circle _ i) in (
       inv.below,
       second.1,
       rw (c.turns-left.ensures, inv.start i, second.0, az.before.end_of_lem.ensures) (omega (arith, short)),
@@ -138,9 +138,9 @@ loop-again c =
     let sector = sectors-of k in
     let az = sector.before.before in
     rw (put.put-number2.ensures, (first-put k).put-number.ensures)
-    (sectors-step t.before.loop.inv t.loop-test.taken s.pre.2 sector.sector-of.result.start
+    (sectors_step t.before.loop.inv t.loop-test.taken s.pre.2 sector.sector-of.result.start
     sector.sector-of.result.width
-    (az.azimuth2.ensures.0 ∙ ap (azimuthOf s.args.frame) az.before.end_of_lem.ensures)
+    (az.azimuth2.ensures.0 ∙ ap (azimuth_of s.args.frame) az.before.end_of_lem.ensures)
     az.azimuth2.ensures.1 sector.before.turns-left.ensures sector.sector-of.ensures.0
     sector.sector-of.ensures.1)
 
@@ -149,10 +149,10 @@ same_length c = c.before.loop.invariant.room
 
 returns : tie.Need-returns invariant-loop decreases-loop
 returns c =
-    let l = c.before in sectors-end l.loop.invariant c.loop-test.false l.before.before.before.before.requires.2
+    let l = c.before in sectors_end l.loop.invariant c.loop-test.false l.before.before.before.before.requires.2
 
-pub put-sectors-spec : {M : Type 1} → statement M
-put-sectors-spec =
+pub put_sectors_spec : {M : Type 1} → statement M
+put_sectors_spec =
     tie.close
     (tie.spec
     invariant-loop

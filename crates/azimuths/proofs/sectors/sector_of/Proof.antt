@@ -9,24 +9,24 @@ use Rattle.azimuths.specs.Sectors.{turn_of}
 use Rattle.azimuths.proofs.sectors.sector_of.Statement.{statement}
 use Rattle.azimuths.proofs.sectors.sector_of.Tie as tie
 
-chosen-below : (t : Bool) {a b n : ℕ} → a < n → b < n → cond t a b < n
-chosen-below true h k = h
-chosen-below false h k = k
+chosen_below : (t : Bool) {a b n : ℕ} → a < n → b < n → cond t a b < n
+chosen_below true h k = h
+chosen_below false h k = k
 
 -- The two azimuths in order, and how much too early.
 module _ (c : tie.After-choose3) where
   abbrev start : tie.Start
   start = c.before.before.before
 
-  from-below : c.before.before.choose.result < 65536
-  from-below =
-      rw c.before.before.choose.ensures (chosen-below start.args.left start.pre.0 start.pre.1)
+  from_below : c.before.before.choose.result < 65536
+  from_below =
+      rw c.before.before.choose.ensures (chosen_below start.args.left start.pre.0 start.pre.1)
 
   to_below : c.before.choose2.result < 65536
-  to_below = rw c.before.choose2.ensures (chosen-below start.args.left start.pre.1 start.pre.0)
+  to_below = rw c.before.choose2.ensures (chosen_below start.args.left start.pre.1 start.pre.0)
 
-  extra-below : c.choose3.result < 2
-  extra-below = rw c.choose3.ensures (chosen-below start.args.left (omega arith) (omega arith))
+  extra_below : c.choose3.result < 2
+  extra_below = rw c.choose3.ensures (chosen_below start.args.left (omega arith) (omega arith))
 
 choose-requires : tie.Need-choose-requires
 choose-requires c κs = search rules
@@ -38,14 +38,14 @@ choose-requires-3 : tie.Need-choose-requires-3
 choose-requires-3 c κs = search rules
 
 add-early : tie.Need-overflow-add-early
-add-early c = omega (arith, from-below c, extra-below c)
+add-early c = omega (arith, from_below c, extra_below c)
 
 gap-requires : tie.Need-gap-requires
-gap-requires c κs = (from-below c, omega arith)
+gap-requires c κs = (from_below c, omega arith)
 
 gap-requires-2 : tie.Need-gap-requires-2
 gap-requires-2 c κs =
-    let from = from-below c.before in
+    let from = from_below c.before in
     let to = to_below c.before in
     (omega (arith, from, to), omega (arith, from, to))
 
@@ -66,8 +66,8 @@ returns c =
       omega (arith, turn, (start chosen).requires.2),
     )
 
-pub sector-of-spec : {M : Type 1} → statement M
-sector-of-spec =
+pub sector_of_spec : {M : Type 1} → statement M
+sector_of_spec =
     tie.close
     (tie.spec
     choose-requires

@@ -2,10 +2,10 @@
 use mathlib.Core.Path.{◌∙◌, ap, ap₂}
 use borrow.Author.Rules.{rules, sfits_of}
 use mir.Syntax.{w64}
-use Rattle.integers.specs.Sign.{sign_of, isPositive}
-use Rattle.integers.proofs.Compare.{positive-test}
-use Rattle.sphere.specs.Orientation.{orientationOf}
-use Rattle.polygon.proofs.Laws.Edges.{ends-within}
+use Rattle.integers.specs.Sign.{sign_of, is_positive}
+use Rattle.integers.proofs.Compare.{positive_test}
+use Rattle.sphere.specs.Orientation.{orientation_of}
+use Rattle.polygon.proofs.Laws.Edges.{ends_within}
 use Rattle.azimuths.proofs.sectors.turns_left.Statement.{statement}
 use Rattle.azimuths.proofs.sectors.turns_left.Tie as tie
 
@@ -18,7 +18,7 @@ end-of-requires c κs = search rules
 turn-requires : tie.Need-turn-requires
 turn-requires c κs =
     let s = c.before.before in
-    let w = ends-within s.requires.1 s.requires.3 c.before.vertex-at.ensures c.end_of_lem.ensures in
+    let w = ends_within s.requires.1 s.requires.3 c.before.vertex-at.ensures c.end_of_lem.ensures in
     (w.0, w.1, s.requires.2)
 
 returns : tie.Need-returns
@@ -26,8 +26,8 @@ returns c =
     let t = c.turn in
     let e = c.before in
     let X = e.before.before.args.known in
-    let ends = ap₂ (λ A B. sign_of (orientationOf A B X)) e.before.vertex-at.ensures e.end_of_lem.ensures in
-    positive-test w64 t.result (sfits_of t.type-inv) ∙ ap isPositive (t.ensures ∙ ends)
+    let ends = ap₂ (λ A B. sign_of (orientation_of A B X)) e.before.vertex-at.ensures e.end_of_lem.ensures in
+    positive_test w64 t.result (sfits_of t.type-inv) ∙ ap is_positive (t.ensures ∙ ends)
 
-pub turns-left-spec : {M : Type 1} → statement M
-turns-left-spec = tie.close (tie.spec vertex-at-requires end-of-requires turn-requires returns)
+pub turns_left_spec : {M : Type 1} → statement M
+turns_left_spec = tie.close (tie.spec vertex-at-requires end-of-requires turn-requires returns)

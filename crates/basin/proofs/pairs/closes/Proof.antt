@@ -13,5 +13,5 @@ returns c = rw (eq-eqb _ _ c.if1.true)
 returns-2 : tie.Need-returns-2
 returns-2 c = rw (ne_eqb _ _ c.if1.false)
 
-pub closes-spec : {M : Type 1} → statement M
-closes-spec = tie.close (tie.spec add-result returns returns-2)
+pub closes_spec : {M : Type 1} → statement M
+closes_spec = tie.close (tie.spec add-result returns returns-2)

@@ -8,29 +8,29 @@ use lib.IntN.{ℤ}
 use mir.Syntax.{w64}
 use mir.Val.{to_z, of_z}
 use Rattle.integers.specs.Sign.{sign_of}
-use Rattle.integers.proofs.Compare.{result-sign}
+use Rattle.integers.proofs.Compare.{result_sign}
 use Rattle.sphere.specs.declared.point.Point.{Point}
-use Rattle.sphere.specs.Point.{limitOf}
-use Rattle.sphere.specs.Orientation.{orientationOf, dotOf}
-use Rattle.sphere.proofs.Laws.Plane.{Made, made-within, made-turn}
-use Rattle.polygon.specs.Vertices.{vertexCount, vertexAt, start_of, end_of}
+use Rattle.sphere.specs.Point.{limit_of}
+use Rattle.sphere.specs.Orientation.{orientation_of, dot_of}
+use Rattle.sphere.proofs.Laws.Plane.{Made, made_within, made_turn}
+use Rattle.polygon.specs.Vertices.{vertices_count, vertex_at, start_of, end_of}
 use Rattle.polygon.specs.Accepted.{Listed, Gridded}
-use Rattle.polygon.proofs.Laws.Checks.{polygon-passed}
+use Rattle.polygon.proofs.Laws.Checks.{polygon_passed}
 use Rattle.polygon.proofs.Laws.Edges.{next_start}
-use Rattle.basin.specs.Pairs.{isOffending, firstPairOf}
-use Rattle.basin.proofs.Laws.Near.{row_made, row_first, near-start, near-end, near-reached}
-use Rattle.basin.proofs.Laws.Paired.{Paired, Row, paired-start, paired-end}
-use Rattle.basin.proofs.Laws.Paired.{row-start, row_step, row-hit, row-end}
+use Rattle.basin.specs.Pairs.{is_offending, first_pair_of}
+use Rattle.basin.proofs.Laws.Near.{row_made, row_first, near_start, near_end, near_reached}
+use Rattle.basin.proofs.Laws.Paired.{Paired, Row, paired_start, paired_end}
+use Rattle.basin.proofs.Laws.Paired.{row_start, row_step, row_hit, row_end}
 use Rattle.basin.proofs.pairs.first_pair.Statement.{statement}
 use Rattle.basin.proofs.pairs.first_pair.Tie as tie
 
 -- On which side of the plane of edge i a point lies.
 abbrev turn_of : List ℤ → ℕ → Point → ℤ
-turn_of vs i p = orientationOf (start_of vs i) (end_of vs i) p
+turn_of vs i p = orientation_of (start_of vs i) (end_of vs i) p
 
 abbrev invariant-loop : tie.invariant-loop
 invariant-loop grid vertices last i plane closing j₀ side₀ j side =
-    (i < j) × (j ≤ last + 1) × Row (isOffending vertices) (vertexCount vertices) i j
+    (i < j) × (j ≤ last + 1) × Row (is_offending vertices) (vertices_count vertices) i j
     × (j ≤ last → sign_of (to_z w64 side) ≡ sign_of (turn_of vertices i (start_of vertices j)))
 
 abbrev decreases-loop : tie.decreases-loop
@@ -38,7 +38,7 @@ decreases-loop grid vertices last i plane closing j₀ side₀ j side = last + 1
 
 abbrev invariant-pairs : tie.invariant-pairs
 invariant-pairs grid vertices last i₀ i =
-    (i ≤ last) × Paired (isOffending vertices) (vertexCount vertices) i
+    (i ≤ last) × Paired (is_offending vertices) (vertices_count vertices) i
 
 abbrev decreases-pairs : tie.decreases-pairs
 decreases-pairs grid vertices last i₀ i = last - i
@@ -46,16 +46,16 @@ decreases-pairs grid vertices last i₀ i = last - i
 -- What lines 10 and 11 say.
 module _ (s : tie.Start invariant-loop decreases-loop invariant-pairs decreases-pairs) where
   listed : Listed s.args.vertices.now
-  listed = (polygon-passed s.requires).0
+  listed = (polygon_passed s.requires).0
 
-  gridded : Gridded (limitOf s.args.grid) s.args.vertices.now
-  gridded = (polygon-passed s.pre).1
+  gridded : Gridded (limit_of s.args.grid) s.args.vertices.now
+  gridded = (polygon_passed s.pre).1
 
 sub-last : tie.Need-overflow-sub-last invariant-loop decreases-loop invariant-pairs decreases-pairs
 sub-last c = omega (arith, (listed c).least)
 
 pairs-holds : tie.Need-pairs-init invariant-loop decreases-loop invariant-pairs decreases-pairs
-pairs-holds c = (omega arith, paired-start _ _)
+pairs-holds c = (omega arith, paired_start _ _)
 
 -- Row i, where there are later edges.
 module _ (r : tie.Else1 invariant-loop decreases-loop invariant-pairs decreases-pairs) where
@@ -66,7 +66,7 @@ module _ (r : tie.Else1 invariant-loop decreases-loop invariant-pairs decreases-
   vs = start.args.vertices.now
 
   abbrev n : ℕ
-  n = vertexCount vs
+  n = vertices_count vs
 
   abbrev i : ℕ
   i = r.before.pairs.i
@@ -111,7 +111,7 @@ side-of-requires c κs =
     let p = c.before in
     let m = made p in (
       m.sound,
-      made-within m (rw c.vertex-at3.ensures ((gridded (start (row p))).each 0 (omega (arith, low (row p))))),
+      made_within m (rw c.vertex-at3.ensures ((gridded (start (row p))).each 0 (omega (arith, low (row p))))),
     )
 
 add-j : tie.Need-overflow-add-j invariant-loop decreases-loop invariant-pairs decreases-pairs
@@ -122,7 +122,7 @@ loop-holds c =
     let r = row c.before.before in (
       omega arith,
       omega (arith, r.if1.left),
-      row-start _ _ _,
+      row_start _ _ _,
       λ h. row_first (vs r) (i r) (low r),
     )
 
@@ -144,13 +144,13 @@ next-near-requires c κs =
     let m = made (at l) in
     let s = start r in
     let d = (closed l).side-of in (
-      (record { each = λ k h. made-within m ((gridded s).each k h) }, m.sound, (listed s).most),
+      (record { each = λ k h. made_within m ((gridded s).each k h) }, m.sound, (listed s).most),
       (
         (c.loop-test.true, omega (arith, (listed s).least)),
         (
-          l.loop.invariant.3 c.loop-test.true ∙ ap sign_of (sym (made-turn m (start_of (vs r) (j l)))),
-          result-sign w64 d.result d.ok (d.ensures
-              ∙ ap (λ p. sign_of (dotOf (at l).plane-through.result.normal p)) (closed l).before.vertex-at3.ensures),
+          l.loop.invariant.3 c.loop-test.true ∙ ap sign_of (sym (made_turn m (start_of (vs r) (j l)))),
+          result_sign w64 d.result d.ok (d.ensures
+              ∙ ap (λ p. sign_of (dot_of (at l).plane-through.result.normal p)) (closed l).before.vertex-at3.ensures),
         ),
       ),
     )
@@ -175,23 +175,23 @@ module _ (c : tie.After-struct-told2 invariant-loop decreases-loop invariant-pai
   later : i here < edge
   later = omega (arith, spot.loop.inv.0, found.next-near.ensures.after)
 
-  start-side : sign_of (to_z w64 (of_z w64 found.next-near.result.start))
+  start_side : sign_of (to_z w64 (of_z w64 found.next-near.result.start))
       ≡ sign_of (turn_of (vs here) (i here) (start_of (vs here) edge))
-  start-side = result-sign w64 found.next-near.result.start c.struct-told2.given.1.0.1
-      (near-start (start here).args.grid (vs here) (start here).pre (i here) (made (at spot)) found.next-near.ensures)
+  start_side = result_sign w64 found.next-near.result.start c.struct-told2.given.1.0.1
+      (near_start (start here).args.grid (vs here) (start here).pre (i here) (made (at spot)) found.next-near.ensures)
 
-  end-side : sign_of (to_z w64 (of_z w64 found.next-near.result.end))
+  end_side : sign_of (to_z w64 (of_z w64 found.next-near.result.end))
       ≡ sign_of (turn_of (vs here) (i here) (end_of (vs here) edge))
-  end-side = result-sign w64 found.next-near.result.end c.struct-told2.given.1.1.0.1
-      (near-end (start here).args.grid (vs here) (start here).pre (i here) (made (at spot)) found.next-near.ensures)
+  end_side = result_sign w64 found.next-near.result.end c.struct-told2.given.1.1.0.1
+      (near_end (start here).args.grid (vs here) (start here).pre (i here) (made (at spot)) found.next-near.ensures)
 
-  reached : Row (isOffending (vs here)) (n here) (i here) edge
-  reached = near-reached (start here).args.grid (vs here) (start here).pre (i here) (made (at spot)) found.next-near.ensures
+  reached : Row (is_offending (vs here)) (n here) (i here) edge
+  reached = near_reached (start here).args.grid (vs here) (start here).pre (i here) (made (at spot)) found.next-near.ensures
       spot.loop.inv.0 inside spot.loop.inv.2
 
 offends-requires : tie.Need-offends-requires invariant-loop decreases-loop invariant-pairs decreases-pairs
 offends-requires c κs =
-    ((start (here c)).pre, (later c, inside c, record { start = start-side c; end = end-side c }))
+    ((start (here c)).pre, (later c, inside c, record { start = start_side c; end = end_side c }))
 
 -- Where it does not offend.
 abbrev told : tie.After-struct-known invariant-loop decreases-loop invariant-pairs decreases-pairs →
@@ -212,7 +212,7 @@ loop-again c =
       omega (arith, later t),
       omega (arith, (found t).next-near.ensures.before),
       row_step (inside t) (sym c.before.before.before.offends.ensures ∙ c.before.before.if2.false) (reached t),
-      λ h. end-side t ∙ ap (λ p. sign_of (turn_of (vs r) (i r) p))
+      λ h. end_side t ∙ ap (λ p. sign_of (turn_of (vs r) (i r) p))
           (next_start (vs r) (edge t) (edge t + 1) refl (omega (arith, h, (listed (start r)).least))),
     )
 
@@ -227,26 +227,26 @@ pairs-again c =
     let l = c.before in
     let r = row (at l) in (
       omega (arith, r.if1.left),
-      row-end (omega (arith, low r)) (omega (arith, c.loop-test.false, (listed (start r)).least)) l.loop.invariant.2
+      row_end (omega (arith, low r)) (omega (arith, c.loop-test.false, (listed (start r)).least)) l.loop.invariant.2
           r.before.pairs.inv.1,
     )
 
 returns : tie.Need-returns invariant-loop decreases-loop invariant-pairs decreases-pairs
-unfolding firstPairOf
+unfolding first_pair_of
 returns c =
-    sym (paired-end (omega (arith, c.if1.true, c.before.pairs.invariant.0, (listed c.before.before).least))
+    sym (paired_end (omega (arith, c.if1.true, c.before.pairs.invariant.0, (listed c.before.before).least))
     c.before.pairs.invariant.1)
 
 returns-2 : tie.Need-returns-2 invariant-loop decreases-loop invariant-pairs decreases-pairs
-unfolding firstPairOf
+unfolding first_pair_of
 returns-2 c =
     let t = c.before.before in
     let r = here t in
-    sym (row-hit (omega (arith, low r)) (inside t) (sym c.before.offends.ensures ∙ c.if2.true) (reached t)
+    sym (row_hit (omega (arith, low r)) (inside t) (sym c.before.offends.ensures ∙ c.if2.true) (reached t)
     r.before.pairs.inv.1)
 
-pub first-pair-spec : {M : Type 1} → statement M
-first-pair-spec =
+pub first_pair_spec : {M : Type 1} → statement M
+first_pair_spec =
     tie.close
     (tie.spec
     invariant-loop

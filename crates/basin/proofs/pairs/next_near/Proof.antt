@@ -13,14 +13,14 @@ use mir.Syntax.{w64}
 use mir.Val.{to_z, of_z}
 use mir.ValLaws.{to_z-of_z}
 use Rattle.integers.specs.Sign.{sign_of}
-use Rattle.integers.proofs.Compare.{result-sign}
+use Rattle.integers.proofs.Compare.{result_sign}
 use Rattle.sphere.specs.declared.point.Point.{Point}
-use Rattle.sphere.specs.Orientation.{dotOf}
-use Rattle.sphere.specs.Crossing.{isBeside}
-use Rattle.polygon.specs.Vertices.{vertexCount, vertexAt, end_of}
+use Rattle.sphere.specs.Orientation.{dot_of}
+use Rattle.sphere.specs.Crossing.{is_beside}
+use Rattle.polygon.specs.Vertices.{vertices_count, vertex_at, end_of}
 use Rattle.polygon.proofs.Laws.Count.{next_last}
 use Rattle.polygon.proofs.Laws.Edges.{next_start}
-use Rattle.basin.specs.Pairs.{side_of, isPassed}
+use Rattle.basin.specs.Pairs.{side_of, is_passed}
 use Rattle.basin.proofs.pairs.next_near.Statement.{statement}
 use Rattle.basin.proofs.pairs.next_near.Tie as tie
 
@@ -28,7 +28,7 @@ use Rattle.basin.proofs.pairs.next_near.Tie as tie
 record Scanned (vs : List ℤ) (N : Point) (j last edge : ℕ) (side : ℤ) : Type 0 where
   after : j ≤ edge
   before : edge ≤ last
-  passed : (k : ℕ) → j ≤ k → k < edge → isPassed vs N k ≡ true
+  passed : (k : ℕ) → j ≤ k → k < edge → is_passed vs N k ≡ true
   known : sign_of side ≡ sign_of (side_of vs N edge)
 
 abbrev invariant-loop : tie.invariant-loop
@@ -54,7 +54,7 @@ module _ (c : tie.In-loop invariant-loop decreases-loop) where
   abbrev start : tie.Start invariant-loop decreases-loop
   start = c.before.before
 
-  more : c.before.loop.edge + 1 < vertexCount start.args.vertices.now
+  more : c.before.loop.edge + 1 < vertices_count start.args.vertices.now
   more = omega (arith, c.loop-test.true, start.pre.1.0.1)
 
   few : c.before.loop.edge + 1 ≤ 4096
@@ -91,14 +91,14 @@ module _ (c : tie.After-is-beside invariant-loop decreases-loop) where
   second : sign_of (to_z w64 (of_z w64 c.before.side-of.result)) ≡ sign_of (side_of vs normal (edge + 1))
   second =
       let d = c.before.side-of in
-      result-sign w64 d.result d.type-inv (rw c.before.before.vertex-at.ensures at d.ensures)
+      result_sign w64 d.result d.type-inv (rw c.before.before.vertex-at.ensures at d.ensures)
 
-  says : isPassed vs normal edge ≡ c.is-beside.result
-  says = sym (c.is-beside.ensures ∙ λ t. isBeside (here.before.loop.inv.known t) (second t))
+  says : is_passed vs normal edge ≡ c.is-beside.result
+  says = sym (c.is-beside.ensures ∙ λ t. is_beside (here.before.loop.inv.known t) (second t))
 
-not-passed : (b : Bool) → not b ≡ true → b ≡ false
-not-passed true e = absurd (true≢false (sym e))
-not-passed false e = refl
+not_passed : (b : Bool) → not b ≡ true → b ≡ false
+not_passed true e = absurd (true≢false (sym e))
+not_passed false e = refl
 
 returns : tie.Need-returns invariant-loop decreases-loop
 returns c =
@@ -109,9 +109,9 @@ returns c =
       after = inv.after;
       before = inv.before;
       passed = inv.passed;
-      stops = λ h. says b ∙ not-passed _ c.if1.true;
+      stops = λ h. says b ∙ not_passed _ c.if1.true;
       start = inv.known;
-      end = second b ∙ ap (λ p. sign_of (dotOf (normal b) p)) (sym (next_start (vs b) (edge b) (edge b + 1) refl (more l)));
+      end = second b ∙ ap (λ p. sign_of (dot_of (normal b) p)) (sym (next_start (vs b) (edge b) (edge b + 1) refl (more l)));
     }
 
 add-edge : tie.Need-overflow-add-edge invariant-loop decreases-loop
@@ -132,8 +132,8 @@ loop-again c =
       known = second b;
     }
   where
-    one_more : (vs : List ℤ) (N : Point) {j edge : ℕ} → isPassed vs N edge ≡ true →
-        ((k : ℕ) → j ≤ k → k < edge → isPassed vs N k ≡ true) → (k : ℕ) → j ≤ k → k < edge + 1 → isPassed vs N k ≡ true
+    one_more : (vs : List ℤ) (N : Point) {j edge : ℕ} → is_passed vs N edge ≡ true →
+        ((k : ℕ) → j ≤ k → k < edge → is_passed vs N k ≡ true) → (k : ℕ) → j ≤ k → k < edge + 1 → is_passed vs N k ≡ true
     one_more vs N {j} {edge} e before k h m =
         let here : k ≤ edge = omega arith in ⊎_elim (λ q. rw q e) (λ l. before k h l) (eq-or-lt_of_le here)
 
@@ -142,7 +142,7 @@ returns-2 c =
     let s = c.before.before in
     let inv = c.before.loop.invariant in
     let vs = s.args.vertices.now in
-    let e : c.before.loop.edge + 1 ≡ vertexCount vs = omega (arith, c.loop-test.false, inv.before, s.requires.1.0.1) in
+    let e : c.before.loop.edge + 1 ≡ vertices_count vs = omega (arith, c.loop-test.false, inv.before, s.requires.1.0.1) in
     record {
       after = inv.after;
       before = inv.before;
@@ -150,11 +150,11 @@ returns-2 c =
       stops = λ h. absurd (omega (arith, h, c.loop-test.false));
       start = inv.known;
       end = ap sign_of (to_z-of_z w64 s.args.closing s.ranges.closing) ∙ s.requires.1.1.1
-          ∙ ap (λ k. sign_of (side_of vs s.args.plane.normal k)) (sym (next_last (vertexCount vs) _ e));
+          ∙ ap (λ k. sign_of (side_of vs s.args.plane.normal k)) (sym (next_last (vertices_count vs) _ e));
     }
 
-pub next-near-spec : {M : Type 1} → statement M
-next-near-spec =
+pub next_near_spec : {M : Type 1} → statement M
+next_near_spec =
     tie.close
     (tie.spec
     invariant-loop

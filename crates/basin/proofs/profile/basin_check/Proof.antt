@@ -2,12 +2,12 @@
 use mathlib.Core.Path.{◌≡◌, sym, ◌∙◌, ap}
 use mathlib.Core.Bool.{not}
 use borrow.Author.Rules.{rules}
-use Rattle.sphere.specs.Point.{limitOf, isGridNumber, gridNumbered}
+use Rattle.sphere.specs.Point.{limit_of, is_grid_number, grid_numbered}
 use Rattle.sphere.proofs.Laws.Grid.{past_one}
 use Rattle.answer.specs.declared.Check.TheVariants.{Passed}
-use Rattle.polygon.specs.Checks.{polygonCheck}
-use Rattle.polygon.specs.Grids.{gridCheck}
-use Rattle.basin.specs.Basin.{basinCheck}
+use Rattle.polygon.specs.Checks.{polygon_check}
+use Rattle.polygon.specs.Grids.{grid_check}
+use Rattle.basin.specs.Basin.{basin_check}
 use Rattle.basin.proofs.profile.basin_check.Statement.{statement}
 use Rattle.basin.proofs.profile.basin_check.Tie as tie
 
@@ -25,12 +25,12 @@ module _ (c : tie.After-grid-check) where
   abbrev start : tie.Start
   start = c.before
 
-  grid-is : c.grid-check.result ≡ gridCheck start.args.vertices.now (not (isGridNumber start.args.grid))
-  grid-is = c.grid-check.ensures ∙ ap (gridCheck start.args.vertices.now) (past_one start.args.grid)
+  grid_is : c.grid-check.result ≡ grid_check start.args.vertices.now (not (is_grid_number start.args.grid))
+  grid_is = c.grid-check.ensures ∙ ap (grid_check start.args.vertices.now) (past_one start.args.grid)
 
 returns : tie.Need-returns
-unfolding basinCheck
-returns c = rw (sym (grid-is c.before.before.before) ∙ c.before.number.given.1)
+unfolding basin_check
+returns c = rw (sym (grid_is c.before.before.before) ∙ c.before.number.given.1)
 
 grid-numbered-requires : tie.Need-grid-numbered-requires
 grid-numbered-requires c κs = search rules
@@ -52,31 +52,31 @@ module _ (c : tie.After-polygon-check) where
   abbrev given : tie.Start
   given = start told.before.before
 
-  grid-passed : gridCheck given.args.vertices.now (not (isGridNumber given.args.grid)) ≡ Passed
-  grid-passed = sym (grid-is told.before.before) ∙ told.enum_told.given.1
+  grid_passed : grid_check given.args.vertices.now (not (is_grid_number given.args.grid)) ≡ Passed
+  grid_passed = sym (grid_is told.before.before) ∙ told.enum_told.given.1
 
-  polygon-is : c.polygon-check.result
-      ≡ polygonCheck (limitOf (gridNumbered given.args.grid)) given.args.vertices.now
-  polygon-is = c.polygon-check.ensures
-      ∙ ap (λ g. polygonCheck (limitOf g) given.args.vertices.now) c.before.grid-numbered.ensures
+  polygon_is : c.polygon-check.result
+      ≡ polygon_check (limit_of (grid_numbered given.args.grid)) given.args.vertices.now
+  polygon_is = c.polygon-check.ensures
+      ∙ ap (λ g. polygon_check (limit_of g) given.args.vertices.now) c.before.grid-numbered.ensures
 
 returns-2 : tie.Need-returns-2
-unfolding basinCheck
+unfolding basin_check
 returns-2 c =
     let p = c.before.before.before in
-    rw (grid-passed p, sym (polygon-is p) ∙ c.before.number2.given.1)
+    rw (grid_passed p, sym (polygon_is p) ∙ c.before.number2.given.1)
 
 fails-if-requires : tie.Need-fails-if-requires
 fails-if-requires c κs = search rules
 
 returns-3 : tie.Need-returns-3
-unfolding basinCheck
+unfolding basin_check
 returns-3 c =
     let p = c.before.before.before in
-    rw (grid-passed p, sym (polygon-is p) ∙ c.before.enum-told2.given.1) c.fails-if.ensures
+    rw (grid_passed p, sym (polygon_is p) ∙ c.before.enum-told2.given.1) c.fails-if.ensures
 
-pub basin-check-spec : {M : Type 1} → statement M
-basin-check-spec =
+pub basin_check_spec : {M : Type 1} → statement M
+basin_check_spec =
     tie.close
     (tie.spec
     grid-check-requires

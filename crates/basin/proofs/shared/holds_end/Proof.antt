@@ -17,5 +17,5 @@ returns-2 : tie.Need-returns-2
 returns-2 c =
     rw (sym c.before.before.on-edge-by.ensures ∙ c.before.if1.false) c.on-edge-by2.ensures
 
-pub holds-end-spec : {M : Type 1} → statement M
-holds-end-spec = tie.close (tie.spec on-edge-by-requires returns on-edge-by-requires-2 returns-2)
+pub holds_end_spec : {M : Type 1} → statement M
+holds_end_spec = tie.close (tie.spec on-edge-by-requires returns on-edge-by-requires-2 returns-2)

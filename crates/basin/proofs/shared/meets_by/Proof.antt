@@ -4,17 +4,17 @@ use mathlib.Core.Bool.{false, ◌&&◌, or-false, and-false}
 use borrow.Author.Rules.{rules}
 use mir.Syntax.{w64}
 use mir.ValLaws.{to_z-of_z}
-use Rattle.integers.specs.Sign.{Sign, negative, nought, positive, sign_of, isNegative, isPositive}
-use Rattle.basin.specs.Shared.{isOpposed, meetsBy}
+use Rattle.integers.specs.Sign.{Sign, negative, nought, positive, sign_of, is_negative, is_positive}
+use Rattle.basin.specs.Shared.{is_opposed, meets_by}
 use Rattle.basin.proofs.shared.meets_by.Statement.{statement}
 use Rattle.basin.proofs.shared.meets_by.Tie as tie
 
-patterns : (s1 s2 s3 s4 : Sign) → (isOpposed s1 s2 && (isOpposed s1 s3 && isOpposed s3 s4)) ≡ meetsBy s1 s2 s3 s4
+patterns : (s1 s2 s3 s4 : Sign) → (is_opposed s1 s2 && (is_opposed s1 s3 && is_opposed s3 s4)) ≡ meets_by s1 s2 s3 s4
 patterns negative negative s3 s4 = refl
 patterns negative nought s3 s4 = refl
 patterns negative positive negative s4 = refl
 patterns negative positive nought s4 = refl
-patterns negative positive positive s4 = sym (or-false (isNegative s4))
+patterns negative positive positive s4 = sym (or-false (is_negative s4))
 patterns nought s2 s3 s4 = refl
 patterns positive negative negative s4 = refl
 patterns positive negative nought s4 = refl
@@ -24,24 +24,24 @@ patterns positive positive s3 s4 = refl
 
 -- The three tests, of the parameters themselves.
 module _ (s : tie.Start) where
-  abbrev whole : meetsBy (sign_of s.args.s1) (sign_of s.args.s2) (sign_of s.args.s3) (sign_of s.args.s4)
-      ≡ (isOpposed (sign_of s.args.s1) (sign_of s.args.s2) && (isOpposed (sign_of s.args.s1)
-      (sign_of s.args.s3) && isOpposed (sign_of s.args.s3) (sign_of s.args.s4)))
+  abbrev whole : meets_by (sign_of s.args.s1) (sign_of s.args.s2) (sign_of s.args.s3) (sign_of s.args.s4)
+      ≡ (is_opposed (sign_of s.args.s1) (sign_of s.args.s2) && (is_opposed (sign_of s.args.s1)
+      (sign_of s.args.s3) && is_opposed (sign_of s.args.s3) (sign_of s.args.s4)))
   whole = sym (patterns (sign_of s.args.s1) (sign_of s.args.s2) (sign_of s.args.s3) (sign_of s.args.s4))
 
 first : (c : tie.After-opposed) →
-    let a = c.before.args in c.opposed.result ≡ isOpposed (sign_of a.s1) (sign_of a.s2)
+    let a = c.before.args in c.opposed.result ≡ is_opposed (sign_of a.s1) (sign_of a.s2)
 first c =
     let s = c.before in
     c.opposed.ensures
-    ∙ λ i. isOpposed (sign_of (to_z-of_z w64 s.args.s1 s.ranges.s1 i)) (sign_of (to_z-of_z w64 s.args.s2 s.ranges.s2 i))
+    ∙ λ i. is_opposed (sign_of (to_z-of_z w64 s.args.s1 s.ranges.s1 i)) (sign_of (to_z-of_z w64 s.args.s2 s.ranges.s2 i))
 
 second : (c : tie.After-opposed2) →
-    let a = c.before.before.before.args in c.opposed2.result ≡ isOpposed (sign_of a.s1) (sign_of a.s3)
+    let a = c.before.before.before.args in c.opposed2.result ≡ is_opposed (sign_of a.s1) (sign_of a.s3)
 second c =
     let s = c.before.before.before in
     c.opposed2.ensures
-    ∙ λ i. isOpposed (sign_of (to_z-of_z w64 s.args.s1 s.ranges.s1 i)) (sign_of (to_z-of_z w64 s.args.s3 s.ranges.s3 i))
+    ∙ λ i. is_opposed (sign_of (to_z-of_z w64 s.args.s1 s.ranges.s1 i)) (sign_of (to_z-of_z w64 s.args.s3 s.ranges.s3 i))
 
 opposed-requires : tie.Need-opposed-requires
 opposed-requires c κs = search rules
@@ -59,7 +59,7 @@ returns c =
     let s = o.before.before.before in
     rw (whole s, sym (first o.before.before) ∙ o.before.if1.true, sym (second o) ∙ t.if2.true)
     (c.opposed3.ensures
-    ∙ λ i. isOpposed (sign_of (to_z-of_z w64 s.args.s3 s.ranges.s3 i)) (sign_of (to_z-of_z w64 s.args.s4 s.ranges.s4 i)))
+    ∙ λ i. is_opposed (sign_of (to_z-of_z w64 s.args.s3 s.ranges.s3 i)) (sign_of (to_z-of_z w64 s.args.s4 s.ranges.s4 i)))
 
 returns-2 : tie.Need-returns-2
 returns-2 c =
@@ -71,7 +71,7 @@ returns-3 : tie.Need-returns-3
 returns-3 c =
     let o = c.before in rw (whole o.before, sym (first o) ∙ c.if1.false)
 
-pub meets-by-spec : {M : Type 1} → statement M
-meets-by-spec =
+pub meets_by_spec : {M : Type 1} → statement M
+meets_by_spec =
     tie.close
     (tie.spec opposed-requires opposed-requires-2 opposed-requires-3 returns returns-2 returns-3)

@@ -18,5 +18,5 @@ returns c =
     let f : SFits w32 c.Int-at.result = record { sfits = c.Int-at.type-inv } in
     rw (held w32 c.Int-at.type-inv refl) (held w64 (widens f).sfits c.Int-at.ensures)
 
-pub coordinate-at-spec : {M : Type 1} → statement M
-coordinate-at-spec = tie.close (tie.spec int-at-requires cast-result returns)
+pub coordinate_at_spec : {M : Type 1} → statement M
+coordinate_at_spec = tie.close (tie.spec int-at-requires cast-result returns)

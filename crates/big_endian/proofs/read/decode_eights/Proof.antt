@@ -7,14 +7,14 @@ use borrow.Author.Rules.{rules}
 use lib.IntN.{ℤ}
 use lib.ListN.{length, drop}
 use lib.Seq.{sets, length-sets}
-use Rattle.big_endian.specs.Bytes.{intsAt}
+use Rattle.big_endian.specs.Bytes.{ints_at}
 use Rattle.big_endian.proofs.Laws.Rows.{filled_none, filled_row}
 use Rattle.big_endian.proofs.read.decode_eights.Statement.{statement}
 use Rattle.big_endian.proofs.read.decode_eights.Tie as tie
 
 abbrev invariant-loop : tie.invariant-loop
 invariant-loop b at eights out₀ j₀ out j =
-    (j ≤ eights) × (length out ≡ length out₀) × (out ≡ intsAt b at (j * 8) ++ drop (j * 8) out₀)
+    (j ≤ eights) × (length out ≡ length out₀) × (out ≡ ints_at b at (j * 8) ++ drop (j * 8) out₀)
 
 abbrev decreases-loop : tie.decreases-loop
 decreases-loop b at eights out₀ j₀ out j = eights - j
@@ -45,7 +45,7 @@ decode-four-requires-2 c κs =
     let t = d.before.before in
     let s = t.before.before.before in
     let k = t.before.loop.j * 8 in
-    let row = intsAt s.args.b.now (s.args.at + k * 4) 4 in
+    let row = ints_at s.args.b.now (s.args.at + k * 4) 4 in
     let e = ap length d.decode-four.ensures ∙ length-sets t.before.loop.out k row
     ∙ t.before.loop.invariant.1 in (
       omega (arith, t.loop-test.true, s.requires.0),
@@ -72,16 +72,16 @@ loop-again c =
     let j = t.before.loop.j in
     let e : j * 8 + 4 + 4 ≡ (j + 1) * 8 = omega arith in
     let fits : j * 8 + 8 ≤ length l = omega (arith, t.loop-test.true, s.requires.1) in
-    let first = one ∙ ap (λ (x : List ℤ). sets x (j * 8) (intsAt b (at + j * 8 * 4) 4)) inv.2
+    let first = one ∙ ap (λ (x : List ℤ). sets x (j * 8) (ints_at b (at + j * 8 * 4) 4)) inv.2
     ∙ filled_row b at l 4 (j * 8) (omega arith) in
-    let second = two ∙ ap (λ (x : List ℤ). sets x (j * 8 + 4) (intsAt b (at + (j * 8 + 4) * 4) 4)) first in
+    let second = two ∙ ap (λ (x : List ℤ). sets x (j * 8 + 4) (ints_at b (at + (j * 8 + 4) * 4) 4)) first in
     let same = sym (ap length first) ∙ ap length one
-    ∙ length-sets t.before.loop.out (j * 8) (intsAt b (at + j * 8 * 4) 4) ∙ inv.1 in (
+    ∙ length-sets t.before.loop.out (j * 8) (ints_at b (at + j * 8 * 4) 4) ∙ inv.1 in (
       omega (arith, t.loop-test.true),
       ap length second
-          ∙ length-sets (intsAt b at (j * 8 + 4) ++ drop (j * 8 + 4) l) (j * 8 + 4) (intsAt b (at + (j * 8 + 4) * 4) 4)
+          ∙ length-sets (ints_at b at (j * 8 + 4) ++ drop (j * 8 + 4) l) (j * 8 + 4) (ints_at b (at + (j * 8 + 4) * 4) 4)
           ∙ same,
-      second ∙ filled_row b at l 4 (j * 8 + 4) (omega arith) ∙ ap (λ (k : ℕ). intsAt b at k ++ drop k l) e,
+      second ∙ filled_row b at l 4 (j * 8 + 4) (omega arith) ∙ ap (λ (k : ℕ). ints_at b at k ++ drop k l) e,
     )
 
 same_length : tie.Need-same-length invariant-loop decreases-loop
@@ -92,8 +92,8 @@ returns c =
     let e : c.before.loop.j ≡ c.before.before.before.args.eights = omega arith in
     rw (← e) c.before.loop.invariant.2
 
-pub decode-eights-spec : {M : Type 1} → statement M
-decode-eights-spec =
+pub decode_eights_spec : {M : Type 1} → statement M
+decode_eights_spec =
     tie.close
     (tie.spec
     invariant-loop

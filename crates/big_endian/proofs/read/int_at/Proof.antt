@@ -2,7 +2,7 @@
 use mathlib.Core.Path.{ap, ◌∙◌}
 use borrow.Author.Rules.{rules}
 use mir.Syntax.{w32}
-use Rattle.big_endian.specs.Bytes.{signed, intAt}
+use Rattle.big_endian.specs.Bytes.{signed, int_at}
 use Rattle.big_endian.proofs.Laws.Signed.{held}
 use Rattle.big_endian.proofs.read.int_at.Statement.{statement}
 use Rattle.big_endian.proofs.read.int_at.Tie as tie
@@ -14,8 +14,8 @@ to-signed-requires : tie.Need-to-signed-requires
 to-signed-requires c κs = search rules
 
 returns : tie.Need-returns
-unfolding intAt
+unfolding int_at
 returns c = held w32 c.to-signed.type-inv (c.to-signed.ensures ∙ ap signed c.before.word_at.ensures)
 
-pub int-at-spec : {M : Type 1} → statement M
-int-at-spec = tie.close (tie.spec word-at-requires to-signed-requires returns)
+pub int_at_spec : {M : Type 1} → statement M
+int_at_spec = tie.close (tie.spec word-at-requires to-signed-requires returns)

@@ -1,7 +1,7 @@
 -- `read::point_at` meets its contract.
 use borrow.Author.Rules.{rules}
 use mir.Syntax.{w64}
-use Rattle.big_endian.specs.Bytes.{pointAt}
+use Rattle.big_endian.specs.Bytes.{point_at}
 use Rattle.big_endian.proofs.Laws.Signed.{held}
 use Rattle.big_endian.proofs.read.point_at.Statement.{statement}
 use Rattle.big_endian.proofs.read.point_at.Tie as tie
@@ -22,15 +22,15 @@ coordinate-at-requires-3 : tie.Need-coordinate-at-requires-3
 coordinate-at-requires-3 c κs = search rules
 
 returns : tie.Need-returns
-unfolding pointAt
+unfolding point_at
 returns c =
     let x = c.before.before.coordinate-at in
     let y = c.before.coordinate-at2 in
     let z = c.coordinate-at3 in
     rw (held w64 x.type-inv x.ensures, held w64 y.type-inv y.ensures, held w64 z.type-inv z.ensures)
 
-pub point-at-spec : {M : Type 1} → statement M
-point-at-spec =
+pub point_at_spec : {M : Type 1} → statement M
+point_at_spec =
     tie.close
     (tie.spec
     coordinate-at-requires

@@ -29,8 +29,8 @@ returns : tie.Need-returns
 unfolding short_at
 returns c = cc
 
-pub short-at-spec : {M : Type 1} → statement M
-short-at-spec =
+pub short_at_spec : {M : Type 1} → statement M
+short_at_spec =
     tie.close
     (tie.spec
     shared-slice-read-wide

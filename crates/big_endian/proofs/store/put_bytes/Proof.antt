@@ -5,7 +5,7 @@ use native.Mathlib.Omega.{arith}
 use borrow.Author.Rules.{rules}
 use lib.ListN.{length, take, length-set}
 use lib.Seq.{sets, take-length}
-use Rattle.big_endian.proofs.Laws.Stores.{bytes-more}
+use Rattle.big_endian.proofs.Laws.Stores.{bytes_more}
 use Rattle.big_endian.proofs.store.put_bytes.Statement.{statement}
 use Rattle.big_endian.proofs.store.put_bytes.Tie as tie
 
@@ -39,7 +39,7 @@ loop-again c =
     let a = c.before.before.before.args in
     let l = c.before.before.loop in
     let h : l.i < length a.row.now = omega arith in
-    let more = bytes-more a.b.now a.at l.i a.row.now h in
+    let more = bytes_more a.b.now a.at l.i a.row.now h in
     (omega arith, refl, simp length-set l.invariant.2, rw l.invariant.3 more)
 
 same_length : tie.Need-same-length invariant-loop decreases-loop
@@ -51,8 +51,8 @@ returns c =
     let e : c.before.loop.i ≡ length a.row.now = omega arith in
     c.before.loop.invariant.3 ∙ rw (e, take-length)
 
-pub put-bytes-spec : {M : Type 1} → statement M
-put-bytes-spec =
+pub put_bytes_spec : {M : Type 1} → statement M
+put_bytes_spec =
     tie.close
     (tie.spec
     invariant-loop

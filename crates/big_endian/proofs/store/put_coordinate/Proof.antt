@@ -24,5 +24,5 @@ returns c =
     let f = to_z-of_z w32 s.args.x (narrows s.args.x s.requires.1) in
     rw (e, f) at c.before.before.put-int.ensures
 
-pub put-coordinate-spec : {M : Type 1} → statement M
-put-coordinate-spec = tie.close (tie.spec cast-put-int put-int-requires same_length returns)
+pub put_coordinate_spec : {M : Type 1} → statement M
+put_coordinate_spec = tie.close (tie.spec cast-put-int put-int-requires same_length returns)

@@ -6,21 +6,21 @@ use borrow.Author.Rules.{rules}
 use lib.ListN.{length, take}
 use lib.Seq.{sets, take-length}
 use mir.Syntax.{w32}
-use Rattle.big_endian.specs.Bytes.{intsBytes}
+use Rattle.big_endian.specs.Bytes.{ints_bytes}
 use Rattle.big_endian.proofs.Laws.Signed.{held}
-use Rattle.big_endian.proofs.Laws.Stores.{ints-more}
+use Rattle.big_endian.proofs.Laws.Stores.{ints_more}
 use Rattle.big_endian.proofs.store.put_ints.Statement.{statement}
 use Rattle.big_endian.proofs.store.put_ints.Tie as tie
 
 abbrev invariant-loop : tie.invariant-loop
 invariant-loop b₀ at row i₀ i-end b i =
-    (i ≤ i-end) × (i-end ≡ length row) × (length b ≡ length b₀) × (b ≡ sets b₀ at (intsBytes (take i row)))
+    (i ≤ i-end) × (i-end ≡ length row) × (length b ≡ length b₀) × (b ≡ sets b₀ at (ints_bytes (take i row)))
 
 abbrev decreases-loop : tie.decreases-loop
 decreases-loop b₀ at row i₀ i-end b i = i-end - i
 
 loop-holds : tie.Need-loop-init invariant-loop decreases-loop
-unfolding intsBytes
+unfolding ints_bytes
 loop-holds c = (omega arith, refl, refl, refl)
 
 mul-put-int : tie.Need-overflow-mul-put-int invariant-loop decreases-loop
@@ -51,7 +51,7 @@ loop-again c =
     let h : l.i < length a.row.now = omega arith in
     let p = c.before.before.put-int in
     let e = rw (held w32 c.before.before.before.put-int-arg2.given refl, l.invariant.3) at p.ensures in
-    (omega arith, refl, p.auto.0 ∙ l.invariant.2, e ∙ ints-more a.b.now a.at l.i a.row.now h)
+    (omega arith, refl, p.auto.0 ∙ l.invariant.2, e ∙ ints_more a.b.now a.at l.i a.row.now h)
 
 same_length : tie.Need-same-length invariant-loop decreases-loop
 same_length c = c.before.loop.invariant.2
@@ -62,8 +62,8 @@ returns c =
     let e : c.before.loop.i ≡ length a.row.now = omega arith in
     c.before.loop.invariant.3 ∙ rw (e, take-length)
 
-pub put-ints-spec : {M : Type 1} → statement M
-put-ints-spec =
+pub put_ints_spec : {M : Type 1} → statement M
+put_ints_spec =
     tie.close
     (tie.spec
     invariant-loop

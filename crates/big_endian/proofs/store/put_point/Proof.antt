@@ -7,7 +7,7 @@ use mir.Val.{to_z, of_z}
 use mir.ValLaws.{to_z-of_z}
 use Rattle.sphere.specs.Point.{Fits}
 use Rattle.big_endian.proofs.Laws.Signed.{narrows, widens}
-use Rattle.big_endian.proofs.Laws.Stores.{point-stored}
+use Rattle.big_endian.proofs.Laws.Stores.{point_stored_lem}
 use Rattle.big_endian.proofs.store.put_point.Statement.{statement}
 use Rattle.big_endian.proofs.store.put_point.Tie as tie
 
@@ -42,11 +42,11 @@ returns c =
     let w = s.requires.1 in
     let x = rw (whole p.x w.at_x) at c1.put-coordinate.ensures in
     let y = rw (whole p.y w.at_y, x) at c2.put-coordinate2.ensures in
-    let z = rw (whole p.z w.at-z, y) at c3.put-coordinate3.ensures in
-    z ∙ point-stored s.args.b.now s.args.at p.x p.y p.z
+    let z = rw (whole p.z w.at_z, y) at c3.put-coordinate3.ensures in
+    z ∙ point_stored_lem s.args.b.now s.args.at p.x p.y p.z
 
-pub put-point-spec : {M : Type 1} → statement M
-put-point-spec =
+pub put_point_spec : {M : Type 1} → statement M
+put_point_spec =
     tie.close
     (tie.spec
     put-coordinate-requires

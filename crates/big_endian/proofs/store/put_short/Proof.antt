@@ -3,7 +3,7 @@ use native.Mathlib.Omega.{arith}
 use native.Mathlib.Numerals.{towards_suc}
 use borrow.Author.Rules.{rules}
 use lib.ListN.{length-set}
-use Rattle.big_endian.specs.Bytes.{shortBytes}
+use Rattle.big_endian.specs.Bytes.{short_bytes}
 use Rattle.big_endian.proofs.store.put_short.Statement.{statement}
 use Rattle.big_endian.proofs.store.put_short.Tie as tie
 
@@ -26,9 +26,9 @@ same_length : tie.Need-same-length
 same_length c = search rules
 
 returns : tie.Need-returns
-unfolding shortBytes
+unfolding short_bytes
 returns c = simp towards_suc
 
-pub put-short-spec : {M : Type 1} → statement M
-put-short-spec =
+pub put_short_spec : {M : Type 1} → statement M
+put_short_spec =
     tie.close (tie.spec cast-b slice-write-b cast-b-2 add-b slice-write-b-2 same_length returns)

@@ -47,8 +47,8 @@ returns : tie.Need-returns
 unfolding word_bytes
 returns c = simp towards_suc
 
-pub put-word-spec : {M : Type 1} → statement M
-put-word-spec =
+pub put_word_spec : {M : Type 1} → statement M
+put_word_spec =
     tie.close
     (tie.spec
     cast-b

@@ -7,7 +7,7 @@ use mir.Syntax.{w32}
 use mir.Val.{to_z, of_z, SFits}
 use mir.ValLaws.{to_z-of_z}
 use Rattle.big_endian.specs.Bytes.{word_of}
-use Rattle.big_endian.proofs.Laws.Signed.{above_zero, is_pos, is-neg}
+use Rattle.big_endian.proofs.Laws.Signed.{above_zero, is_pos, is_neg}
 use Rattle.big_endian.proofs.store.to_word.Statement.{statement}
 use Rattle.big_endian.proofs.store.to_word.Tie as tie
 
@@ -20,7 +20,7 @@ at-pos c =
 at-neg : (c : tie.Else1) → to_z w32 (of_z w32 c.before.args.x) ≡ negsuc (mag c.before.args.x)
 at-neg c =
     let e = to_z-of_z w32 c.before.args.x c.before.ranges.x in
-    e ∙ is-neg c.before.args.x (rw e at c.if1.false)
+    e ∙ is_neg c.before.args.x (rw e at c.if1.false)
 
 bound : (c : tie.Else1) → SFits w32 (pos (mag c.before.args.x))
 bound c = record { sfits = c.before.ranges.x.sfits }
@@ -51,6 +51,6 @@ returns-2 c =
     let e = sym (to_z-of_z w32 c.before.args.x c.before.ranges.x) ∙ at-neg c in
     rw (at-neg c, above_zero, to_z-of_z w32 _ (bound c)) (sym (ap word_of e))
 
-pub to-word-spec : {M : Type 1} → statement M
-to-word-spec =
+pub to_word_spec : {M : Type 1} → statement M
+to_word_spec =
     tie.close (tie.spec cast-result sub-result cast-result-2 sub-result-2 returns returns-2)

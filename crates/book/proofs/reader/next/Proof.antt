@@ -45,7 +45,7 @@ use denote.Triple.Entry.{on_entry}
 use denote.Triple.Spec.{Meets, triple_of}
 use denote.Triple.Table.{entered, cited}
 use denote.Triple.Walked.{says, Stays, stay_ref, walk_of, Goes-ref, Walks, ends_at, walked, walk_Meets}
-use Rattle.book.specs.Step.{stepAt, next_at}
+use Rattle.book.specs.Step.{step_at, next_at}
 use Rattle.book.specs.declared.reader.Reader.{Reader}
 use Rattle.book.specs.declared.step.Step.{Step}
 use Rattle.book.specs.contracts.reader.Reader as T
@@ -102,7 +102,7 @@ module _ {M : Type 1} {𝓤 : Ura M} (𝓛 : Logic 𝓤) (at_mem : Memory → SP
   right = next_at h.book.now h.at
 
   abbrev found : Step
-  found = stepAt h.book.now h.at
+  found = step_at h.book.now h.at
 
   -- what the struct owns, and its slice
   abbrev Own : Fml
@@ -119,12 +119,12 @@ module _ {M : Type 1} {𝓤 : Ura M} (𝓛 : Logic 𝓤) (at_mem : Memory → SP
   abbrev to_step : (StepAt 𝓛 at_mem run).Ghost
   to_step = held.to_step 𝓛 at_mem run (α κ') q' h
 
-  abbrev to-after : (NextAt 𝓛 at_mem run).Ghost
-  to-after = (((κ', tt), (q', tt), tt, (h.book, (h.at, tt)), held.passed (α κ') h), tt)
+  abbrev to_after : (NextAt 𝓛 at_mem run).Ghost
+  to_after = (((κ', tt), (q', tt), tt, (h.book, (h.at, tt)), held.passed (α κ') h), tt)
 
-  said-after : (m : ℕ) → ent 𝓤 (ensured 𝓛 after.ended (after.clauses 𝓛 at_mem run) (κ', tt)
+  said_after : (m : ℕ) → ent 𝓤 (ensured 𝓛 after.ended (after.clauses 𝓛 at_mem run) (κ', tt)
       (h.book, (h.at, tt)) tt m) (fact 𝓤 (m ≡ right))
-  said-after m = ex_e 𝓤 _ (λ ws. snd∗ 𝓤 (sem 𝓛 (lasts after.ended (κ', tt) (h.book, (h.at, tt)) ws))
+  said_after m = ex_e 𝓤 _ (λ ws. snd∗ 𝓤 (sem 𝓛 (lasts after.ended (κ', tt) (h.book, (h.at, tt)) ws))
       (fact 𝓤 (m ≡ right)))
 
   exits : (m : ℕ) (r : Step) (u : Val) → m ≡ right → r ≡ found → ent 𝓤
@@ -170,15 +170,15 @@ module _ {M : Type 1} {𝓤 : Ura M} (𝓛 : Logic 𝓤) (at_mem : Memory → SP
         ((shr_slice_copy 𝓛 (named 0) κ' u8).twice h.book (held.slice (α κ') h ∷ [])) $ split ! $
         -- [the slice's part; again; what a Reader owns; the cell; the open borrow; obs; auth; 'a's token; nothing; room
         -- for _4; …; _3; …; _2; …; _1; …; room for _0; …]
-        move ! (0 ∷ 7 ∷ []) $ use2 𝓛 (raw ((NextAt 𝓛 at_mem run).pre to-after))
+        move ! (0 ∷ 7 ∷ []) $ use2 𝓛 (raw ((NextAt 𝓛 at_mem run).pre to_after))
         (held.asked 𝓛 at_mem run (α κ') q' h wt.1.1.0.fits) $
-        calls_at ! fm (NextAt 𝓛 at_mem run) known-after to-after
+        calls_at ! fm (NextAt 𝓛 at_mem run) known-after to_after
         (and_then ! (load ! (from ! (stop !)) (look ! 12 refl))
         (and_then ! (load ! (from ! (stop !)) (look ! 10 refl)) (no_more !))) (λ w.
         use1 𝓛 (later (some (λ (m : ℕ). ((‵ (flft κ' q') ⊛ ‵ ftrue) ⊛ ‵ (usize.own_val m (w ∷ []))) ⊛ raw
         (ensured 𝓛 after.ended (after.clauses 𝓛 at_mem run) (κ', tt) (h.book, (h.at, tt)) tt m)))) (id⊢ 𝓤 _) $
         await ! tt $ pick ! (λ m.
-        split ! $ move ! (1 ∷ []) $ use1 𝓛 (raw (fact 𝓤 (m ≡ right))) (said-after m) $
+        split ! $ move ! (1 ∷ []) $ use1 𝓛 (raw (fact 𝓤 (m ≡ right))) (said_after m) $
         heard ! (m ≡ right) (λ e. split ! $ move ! (1 ∷ []) $
         -- [the number's; 'a's token; the slice's part; what a Reader owns; the cell; the open borrow; obs; auth;
         -- nothing; room for _4; …; _3; …; _2; …; _1; …; room for _0; …]
@@ -220,30 +220,30 @@ module _ {M : Type 1} {𝓤 : Ura M} (𝓛 : Logic 𝓤) (mem : Memory → SProp
     (run : Routine → Fun 𝓤) where
   open 𝓛 use {H}
 
-  next-walks : (C : Calls 𝓤 H) (Λ : Loops 𝓤 H) → FmC 𝓤 H 𝓛.laws C → Triple 𝓤 (C #book·step·step-at)
+  next_walks : (C : Calls 𝓤 H) (Λ : Loops 𝓤 H) → FmC 𝓤 H 𝓛.laws C → Triple 𝓤 (C #book·step·step-at)
       (StepAt 𝓛 mem run) → Triple 𝓤 (C #book·step·next-at) (NextAt 𝓛 mem run)
       → Walks 𝓛 next.ended stayed (WpFn 𝓤 H C Λ code.function) (next.clauses 𝓛 mem run)
-  next-walks C Λ fm Known-step known-after = walked 𝓛 next.ended stayed (next.clauses 𝓛 mem run)
+  next_walks C Λ fm Known-step known-after = walked 𝓛 next.ended stayed (next.clauses 𝓛 mem run)
       (WpFn 𝓤 H C Λ code.function) (λ κs. (mut_vals, tt)) (λ κs. (mut_Tells (named 0) κs.0 (B κs.1.0), tt))
       (λ κs qs bounds a g are. via 𝓤 _ (fst∗ 𝓤 _ (emp 𝓤)) (walk 𝓛 mem run κs.0 κs.1.0 qs.0 qs.1.0
       bounds a.0.ref_ptr.0 a.0.ref_ptr.1 a.0.ghost_name a.0.now C Λ fm Known-step known-after))
 
-next-meets : {M : Type 1} {𝓤 : Ura M} (𝓛 : Logic 𝓤) (mem : Memory → SProp 𝓤)
+next_meets : {M : Type 1} {𝓤 : Ura M} (𝓛 : Logic 𝓤) (mem : Memory → SProp 𝓤)
     (run : Routine → Fun 𝓤) (𝓣 : Tables 𝓤 𝓛.H)
     → Triple 𝓤 (𝓣.C #book·step·step-at) (StepAt 𝓛 mem run) → Triple 𝓤 (𝓣.C #book·step·next-at)
     (NextAt 𝓛 mem run)
     → Meets 𝓛 next.signature (WpFn 𝓤 𝓛.H 𝓣.C 𝓣.Λ code.function) (next.spec 𝓛 mem run)
-next-meets {𝓤 = 𝓤} 𝓛 mem run 𝓣 Known-step known-after = walk_Meets 𝓛 next.ended stayed
+next_meets {𝓤 = 𝓤} 𝓛 mem run 𝓣 Known-step known-after = walk_Meets 𝓛 next.ended stayed
     (Goes-ref 𝓛 2 0 tt behind, tt) (next.clauses 𝓛 mem run) (WpFn 𝓤 𝓛.H 𝓣.C 𝓣.Λ code.function)
     (WpFn-mono 𝓤 𝓛.H 𝓛.laws 𝓣 code.function)
-    (next-walks 𝓛 mem run 𝓣.C 𝓣.Λ (fm_of 𝓤 𝓛.H 𝓛.laws 𝓣) Known-step known-after)
+    (next_walks 𝓛 mem run 𝓣.C 𝓣.Λ (fm_of 𝓤 𝓛.H 𝓛.laws 𝓣) Known-step known-after)
 
-pub next-spec : {M : Type 1} → stated.statement M
+pub next_spec : {M : Type 1} → stated.statement M
 unfolding code.routine tables_of
-next-spec 𝓤 𝓛 𝓜 𝓡 =
+next_spec 𝓤 𝓛 𝓜 𝓡 =
     entered 𝓤 𝓛.H (triple_of 𝓛 next.signature (next.spec 𝓛 𝓜.mem 𝓡.run))
     (tables 𝓤 𝓛.H 𝓜 𝓡 code.env).C (tables 𝓤 𝓛.H 𝓜 𝓡 code.env).Λ #book·reader·next code.function (code.unfolded 𝓤 𝓛.H 𝓜 𝓡)
-    (next-meets 𝓛 𝓜.mem 𝓡.run (tables_of 𝓤 𝓛.H 𝓜 (tables 𝓤 𝓛.H 𝓜 𝓡 code.env))
+    (next_meets 𝓛 𝓜.mem 𝓡.run (tables_of 𝓤 𝓛.H 𝓜 (tables 𝓤 𝓛.H 𝓜 𝓡 code.env))
     (cited 𝓤 𝓛.H (StepAt 𝓛 𝓜.mem 𝓡.run) 𝓜 𝓡 code.env #book·step·step-at step-def.routine
     code.calls-book::step::step-at (step_thm.met 𝓤 𝓛 𝓜 𝓡))
     (cited 𝓤 𝓛.H (NextAt 𝓛 𝓜.mem 𝓡.run) 𝓜 𝓡 code.env #book·step·next-at after-def.routine

@@ -43,7 +43,7 @@ use denote.Triple.Walked.{says, Stays, stay_none, stay_none_slice, walk_of, Goes
 use denote.Triple.Walked.{walked, walk_Meets}
 use denote.Exit.{yes}
 use denote.Triple.Clauses.{ensured, lasts}
-use Rattle.book.specs.Step.{stepAt}
+use Rattle.book.specs.Step.{step_at}
 use Rattle.book.specs.declared.reader.Reader.{Reader}
 use Rattle.book.specs.declared.step.Step.{Step}
 use Rattle.book.specs.contracts.reader.Reader as T
@@ -89,7 +89,7 @@ module _ {M : Type 1} {𝓤 : Ura M} (𝓛 : Logic 𝓤) (mem : Memory → SProp
   at = (v ∷ [], (vint w64 n ∷ [], tt))
 
   abbrev found : Step
-  found = stepAt s.now n
+  found = step_at s.now n
 
   abbrev Post : Val → SProp 𝓤
   Post = (walk_of 𝓛 step_from.ended stayed (step_from.clauses 𝓛 mem run)).post
@@ -110,21 +110,21 @@ module _ {M : Type 1} {𝓤 : Ura M} (𝓛 : Logic 𝓤) (mem : Memory → SProp
       (s, (n, tt)))
 
   -- the call of `look`: what it is passed, what it asks, and what is known of its result
-  abbrev to-look : (Look 𝓛 mem run).Ghost
-  to-look = (((κ, tt), (q, tt), tt, (made, tt), (mach ∷ [], tt)), tt)
+  abbrev to_look : (Look 𝓛 mem run).Ghost
+  to_look = (((κ, tt), (q, tt), tt, (made, tt), (mach ∷ [], tt)), tt)
 
-  asked : ent 𝓤 (⋆ 𝓛 (‵ Held ∷ (‵ (flft κ q) ⊛ ‵ ftrue) ∷ [])) ((Look 𝓛 mem run).pre to-look)
+  asked : ent 𝓤 (⋆ 𝓛 (‵ Held ∷ (‵ (flft κ q) ⊛ ‵ ftrue) ∷ [])) ((Look 𝓛 mem run).pre to_look)
   asked = qed 𝓛 (‵ Held ∷ (‵ (flft κ q) ⊛ ‵ ftrue) ∷ []) ∵ nothing ! $ move ! (1 ∷ 0 ∷ []) $ fjoin ! $
       move ! (1 ∷ 0 ∷ []) $ join ! $ frame ! $ done !
 
-  goes-look : ent 𝓤 (on_entry 𝓛 step_from.signature (κ, tt) (q, tt) (s, (n, tt)) at)
-      (sep 𝓤 ((Look 𝓛 mem run).pre to-look) (sem 𝓛 Own))
-  goes-look =
+  goes_look : ent 𝓤 (on_entry 𝓛 step_from.signature (κ, tt) (q, tt) (s, (n, tt)) at)
+      (sep 𝓤 ((Look 𝓛 mem run).pre to_look) (sem 𝓛 Own))
+  goes_look =
       qed 𝓛 ((‵ (flft κ q) ⊛ ‵ ftrue) ∷ ‵ (owns (ShrSlice (named 0) κ u8 ∷ usize ∷ []) (s, (n, tt)) at) ∷ []) ∵
       move ! (1 ∷ []) $ fsplit ! $ move ! (1 ∷ []) $ drop ! $
       use1 𝓛 (‵ Own ⊛ ‵ Own) ((shr_slice_copy 𝓛 (named 0) κ u8).twice s (v ∷ [])) $ split ! $
       -- [what s owns; what s owns; the token]
-      use1 𝓛 (‵ Held) held $ move ! (0 ∷ 2 ∷ []) $ use2 𝓛 (raw ((Look 𝓛 mem run).pre to-look)) asked $ frame ! $
+      use1 𝓛 (‵ Held) held $ move ! (0 ∷ 2 ∷ []) $ use2 𝓛 (raw ((Look 𝓛 mem run).pre to_look)) asked $ frame ! $
       done !
 
   said : (t : Step) → ent 𝓤 (ensured 𝓛 looks.ended (looks.clauses 𝓛 mem run) (κ, tt) (made, tt) tt t)
@@ -159,9 +159,9 @@ module _ {M : Type 1} {𝓤 : Ura M} (𝓛 : Logic 𝓤) (mem : Memory → SProp
             (record { fits = ok }, tt),
           ),
         )) $
-        move ! (8 ∷ []) $ use1 𝓛 (raw ((Look 𝓛 mem run).pre to-look) ⊛ ‵ Own) goes-look $ split ! $
+        move ! (8 ∷ []) $ use1 𝓛 (raw ((Look 𝓛 mem run).pre to_look) ⊛ ‵ Own) goes_look $ split ! $
         -- [what `look` asks; what s owns; _3; …; _2; …; _1; …; room for _0; …]
-        calls_at ! fm (Look 𝓛 mem run) known to-look (and_then ! (load ! (from ! (stop !)) (look ! 2 refl))
+        calls_at ! fm (Look 𝓛 mem run) known to_look (and_then ! (load ! (from ! (stop !)) (look ! 2 refl))
         (no_more !)) (λ u.
         use1 𝓛 (later (some (λ (t : Step). ((‵ (flft κ q) ⊛ ‵ ftrue) ⊛ ‵ ((S.the_row).own_val t (u ∷ []))) ⊛ raw
         (ensured 𝓛 looks.ended (looks.clauses 𝓛 mem run) (κ, tt) (made, tt) tt t)))) (id⊢ 𝓤 _) $ await ! tt $
@@ -179,32 +179,32 @@ module _ {M : Type 1} {𝓤 : Ura M} (𝓛 : Logic 𝓤) (mem : Memory → SProp
     (run : Routine → Fun 𝓤) where
   open 𝓛 use {H}
 
-  step-from-walks : (C : Calls 𝓤 H) (Λ : Loops 𝓤 H) → FmC 𝓤 H 𝓛.laws C → Triple 𝓤 (C #book·reader·look)
+  step_from_walks : (C : Calls 𝓤 H) (Λ : Loops 𝓤 H) → FmC 𝓤 H 𝓛.laws C → Triple 𝓤 (C #book·reader·look)
       (Look 𝓛 mem run)
       → Walks 𝓛 step_from.ended stayed (WpFn 𝓤 H C Λ code.function) (step_from.clauses 𝓛 mem run)
-  step-from-walks C Λ fm known = walked 𝓛 step_from.ended stayed (step_from.clauses 𝓛 mem run)
+  step_from_walks C Λ fm known = walked 𝓛 step_from.ended stayed (step_from.clauses 𝓛 mem run)
       (WpFn 𝓤 H C Λ code.function) (λ κs. (shr_slice_vals, (uint_vals w64, tt)))
       (λ κs. (shr_slice_Tells (named 0) κs.0 u8, (uint_Tells w64, tt)))
       (λ κs qs bounds a g are. via 𝓤 _ (fst∗ 𝓤 _ (emp 𝓤)) (walk 𝓛 mem run κs.0 qs.0 a.0 a.1.0
       are.1.0.1 C Λ fm known are.0))
 
-step-from-meets : {M : Type 1} {𝓤 : Ura M} (𝓛 : Logic 𝓤) (mem : Memory → SProp 𝓤)
+step_from_meets : {M : Type 1} {𝓤 : Ura M} (𝓛 : Logic 𝓤) (mem : Memory → SProp 𝓤)
     (run : Routine → Fun 𝓤) (𝓣 : Tables 𝓤 𝓛.H)
     → Triple 𝓤 (𝓣.C #book·reader·look) (Look 𝓛 mem run)
     → Meets 𝓛 step_from.signature (WpFn 𝓤 𝓛.H 𝓣.C 𝓣.Λ code.function) (step_from.spec 𝓛 mem run)
-step-from-meets {𝓤 = 𝓤} 𝓛 mem run 𝓣 known = walk_Meets 𝓛 step_from.ended stayed (
+step_from_meets {𝓤 = 𝓤} 𝓛 mem run 𝓣 known = walk_Meets 𝓛 step_from.ended stayed (
   Goes-none_slice 𝓛 1 (0 ∷ []) tt (plain (λ _. u8)) yes,
   (Goes-none 𝓛 1 (λ _. usize) yes (λ κs x f. refl), tt),
 ) (step_from.clauses 𝓛 mem run)
     (WpFn 𝓤 𝓛.H 𝓣.C 𝓣.Λ code.function) (WpFn-mono 𝓤 𝓛.H 𝓛.laws 𝓣 code.function)
-    (step-from-walks 𝓛 mem run 𝓣.C 𝓣.Λ (fm_of 𝓤 𝓛.H 𝓛.laws 𝓣) known)
+    (step_from_walks 𝓛 mem run 𝓣.C 𝓣.Λ (fm_of 𝓤 𝓛.H 𝓛.laws 𝓣) known)
 
-pub step-from-spec : {M : Type 1} → stated.statement M
+pub step_from_spec : {M : Type 1} → stated.statement M
 unfolding code.routine tables_of
-step-from-spec 𝓤 𝓛 𝓜 𝓡 =
+step_from_spec 𝓤 𝓛 𝓜 𝓡 =
     entered 𝓤 𝓛.H (triple_of 𝓛 step_from.signature (step_from.spec 𝓛 𝓜.mem 𝓡.run))
     (tables 𝓤 𝓛.H 𝓜 𝓡 code.env).C (tables 𝓤 𝓛.H 𝓜 𝓡 code.env).Λ #book·reader·step-from code.function
     (code.unfolded 𝓤 𝓛.H 𝓜 𝓡)
-    (step-from-meets 𝓛 𝓜.mem 𝓡.run (tables_of 𝓤 𝓛.H 𝓜 (tables 𝓤 𝓛.H 𝓜 𝓡 code.env))
+    (step_from_meets 𝓛 𝓜.mem 𝓡.run (tables_of 𝓤 𝓛.H 𝓜 (tables 𝓤 𝓛.H 𝓜 𝓡 code.env))
     (cited 𝓤 𝓛.H (Look 𝓛 𝓜.mem 𝓡.run) 𝓜 𝓡 code.env #book·reader·look look-def.routine
     code.calls-book::reader::look (look-thm.met 𝓤 𝓛 𝓜 𝓡)))

@@ -6,13 +6,13 @@ use native.Mathlib.Omega.{arith}
 use borrow.Author.Rules.{rules}
 use lib.ListN.{length, take, drop, length-drop}
 use Rattle.answer.specs.declared.Check.TheVariants.{Passed}
-use Rattle.fields.specs.Fields.{sheetFields, sheetEnd}
-use Rattle.fields.specs.Parts.{partsAfter}
-use Rattle.fields.proofs.Laws.Fields.{five-passed}
-use Rattle.fields.proofs.Laws.Front.{refuses-front}
-use Rattle.fields.proofs.Laws.Parts.{parts-check, parts-passed, parts-end, parts-few}
+use Rattle.fields.specs.Fields.{sheet_fields, sheet_end}
+use Rattle.fields.specs.Parts.{parts_after}
+use Rattle.fields.proofs.Laws.Fields.{five_passed}
+use Rattle.fields.proofs.Laws.Front.{refuses_front}
+use Rattle.fields.proofs.Laws.Parts.{parts_check, parts_passed, parts_end, parts_few}
 use Rattle.book.specs.declared.step.Step.TheVariants.{Sheet}
-use Rattle.book.proofs.Laws.Steps.{rest_of, step_past, step-passed, step-failed}
+use Rattle.book.proofs.Laws.Steps.{rest_of, step_past, step_passed, step_failed}
 use Rattle.book.proofs.step.step_at.Statement.{statement}
 use Rattle.book.proofs.step.step_at.Tie as tie
 
@@ -31,19 +31,19 @@ module _ (c : tie.After-sheet-fields) where
   abbrev part : List ℕ
   part = take (length book - at) (drop at book)
 
-  checked : sheetFields part ≡ c.sheet-fields.result.check
-  checked = sym (parts-check part (sheetFields part) c.sheet-fields.ensures)
+  checked : sheet_fields part ≡ c.sheet-fields.result.check
+  checked = sym (parts_check part (sheet_fields part) c.sheet-fields.ensures)
 
 -- ---- they are sound
 module _ (c : tie.After-enum-told) where
   abbrev asked : tie.After-sheet-fields
   asked = c.before.before
 
-  passed : sheetFields (part asked) ≡ Passed
+  passed : sheet_fields (part asked) ≡ Passed
   passed = checked asked ∙ c.enum_told.given.1
 
-  parts : asked.sheet-fields.result ≡ partsAfter Passed (part asked)
-  parts = parts-passed (part asked) asked.sheet-fields.ensures passed
+  parts : asked.sheet-fields.result ≡ parts_after Passed (part asked)
+  parts = parts_passed (part asked) asked.sheet-fields.ensures passed
 
 returns : tie.Need-returns
 returns c = sym (step_past _ _ c.if1.true)
@@ -64,7 +64,7 @@ enum_told : tie.Need-enum-told
 enum_told c = search rules
 
 sheet-end-requires : tie.Need-sheet-end-requires
-sheet-end-requires c κs = parts-few (part (asked c)) (parts c) (five-passed _ (passed c))
+sheet-end-requires c κs = parts_few (part (asked c)) (parts c) (five_passed _ (passed c))
 
 enum-known-check : tie.Need-enum-known-check
 enum-known-check c = search rules
@@ -72,7 +72,7 @@ enum-known-check c = search rules
 add-t14 : tie.Need-overflow-add-t14
 add-t14 c =
     let f = c.before.before.before in
-    let r = (refuses-front (part f)).refusal _ _ (checked f ∙ c.before.check.given.1) in
+    let r = (refuses_front (part f)).refusal _ _ (checked f ∙ c.before.check.given.1) in
     let l = length-drop (at f) (book f) in
     let e = ap length (rest_of (book f) (at f)) in
     omega (arith, r.2)
@@ -82,17 +82,17 @@ returns-2 c =
     let t = c.before in
     let f = asked t in
     let e = rest_of (book f) (at f) in
-    ap (Sheet (at f)) (c.sheet-end.ensures ∙ parts-end (part f) (parts t) ∙ ap sheetEnd e)
-    ∙ sym (step-passed (book f) (at f) f.before.before.if1.left (sym (ap sheetFields e) ∙ passed t))
+    ap (Sheet (at f)) (c.sheet-end.ensures ∙ parts_end (part f) (parts t) ∙ ap sheet_end e)
+    ∙ sym (step_passed (book f) (at f) f.before.before.if1.left (sym (ap sheet_fields e) ∙ passed t))
 
 returns-3 : tie.Need-returns-3
 returns-3 c =
     let f = c.before.before.before in
-    let e = sym (ap sheetFields (rest_of (book f) (at f))) ∙ checked f ∙ c.before.check.given.1 in
-    sym (step-failed (book f) (at f) f.before.before.if1.false e)
+    let e = sym (ap sheet_fields (rest_of (book f) (at f))) ∙ checked f ∙ c.before.check.given.1 in
+    sym (step_failed (book f) (at f) f.before.before.if1.false e)
 
-pub step-at-spec : {M : Type 1} → statement M
-step-at-spec =
+pub step_at_spec : {M : Type 1} → statement M
+step_at_spec =
     tie.close
     (tie.spec
     returns

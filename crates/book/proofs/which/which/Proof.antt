@@ -5,10 +5,10 @@ use Prim.Native.Nat.{◌-◌}
 use native.Mathlib.Omega.{arith}
 use borrow.Author.Rules.{rules}
 use Rattle.book.specs.declared.step.Step.TheVariants.{Sheet}
-use Rattle.book.specs.Step.{stepAt}
-use Rattle.book.proofs.Laws.Steps.{SheetAt, sheet-at, part-five}
-use Rattle.book.proofs.Laws.Walked.{Walked, walked_start, walked-sheet, walked-refused, walked_end}
-use Rattle.book.proofs.Laws.Walked.{walked-left, walked-done}
+use Rattle.book.specs.Step.{step_at}
+use Rattle.book.proofs.Laws.Steps.{SheetAt, sheet_at, part_five}
+use Rattle.book.proofs.Laws.Walked.{Walked, walked_start, walked_sheet, walked_refused, walked_end}
+use Rattle.book.proofs.Laws.Walked.{walked_left, walked_done}
 use Rattle.book.proofs.which.which.Statement.{statement}
 use Rattle.book.proofs.which.which.Tie as tie
 
@@ -30,7 +30,7 @@ enum-known-size c = search rules
 -- The step found a sheet, and where it stands.
 sheet : (c : tie.After-known-told invariant-loop decreases-loop) →
     let l = c.before.before.before.before.before in
-    stepAt l.before.before.args.book.now l.loop.at
+    step_at l.before.before.args.book.now l.loop.at
     ≡ Sheet c.before.size.given.0.0 c.before.size.given.0.1.0
 sheet c = sym c.before.before.before.step-at.ensures ∙ c.before.size.given.1
 
@@ -38,10 +38,10 @@ found_at : (c : tie.After-known-told invariant-loop decreases-loop) →
     let l = c.before.before.before.before.before in
     SheetAt l.before.before.args.book.now l.loop.at c.before.size.given.0.0
     c.before.size.given.0.1.0
-found_at c = sheet-at _ _ (sheet c)
+found_at c = sheet_at _ _ (sheet c)
 
 zone-at-requires : tie.Need-zone-at-requires invariant-loop decreases-loop
-zone-at-requires c κs = ((found_at c).within, part-five _ _ (sheet c))
+zone-at-requires c κs = ((found_at c).within, part_five _ _ (sheet c))
 
 with-zone-requires : tie.Need-with-zone-requires invariant-loop decreases-loop
 with-zone-requires c κs =
@@ -63,7 +63,7 @@ returns c =
     let s = k.before.before in
     let l = s.before in
     c.broken.ensures
-    ∙ sym (walked-refused _ _ _ l.before.loop.invariant l.loop-test.true
+    ∙ sym (walked_refused _ _ _ l.before.loop.invariant l.loop-test.true
     (sym s.step-at.ensures ∙ k.number.given.1))
 
 enum_told : tie.Need-enum-told invariant-loop decreases-loop
@@ -91,7 +91,7 @@ loop-again : tie.Need-loop-preserved invariant-loop decreases-loop
 loop-again c =
     let k = c.before.before in
     let l = k.before.before.before.before in
-    walked-sheet _ _ _ l.before.loop.invariant l.loop-test.true (sheet k) c.before.zone-at.ensures
+    walked_sheet _ _ _ l.before.loop.invariant l.loop-test.true (sheet k) c.before.zone-at.ensures
     c.with-zone.ensures
 
 broken-requires-2 : tie.Need-broken-requires-2 invariant-loop decreases-loop
@@ -101,7 +101,7 @@ returns-3 : tie.Need-returns-3 invariant-loop decreases-loop
 returns-3 c =
     let l = c.before.before in
     c.broken2.ensures
-    ∙ sym (walked-left _ _ _ l.before.loop.invariant l.loop-test.false c.before.if1.true)
+    ∙ sym (walked_left _ _ _ l.before.loop.invariant l.loop-test.false c.before.if1.true)
 
 found-requires-2 : tie.Need-found-requires-2 invariant-loop decreases-loop
 found-requires-2 c κs = search rules
@@ -110,10 +110,10 @@ returns-4 : tie.Need-returns-4 invariant-loop decreases-loop
 returns-4 c =
     let l = c.before.before in
     c.found2.ensures
-    ∙ sym (walked-done _ _ _ l.before.loop.invariant l.loop-test.false c.before.if1.false)
+    ∙ sym (walked_done _ _ _ l.before.loop.invariant l.loop-test.false c.before.if1.false)
 
-pub which-spec : {M : Type 1} → statement M
-which-spec =
+pub which_spec : {M : Type 1} → statement M
+which_spec =
     tie.close
     (tie.spec
     invariant-loop

@@ -4,8 +4,8 @@ use Prim.Native.Nat.{◌+◌, ◌-◌}
 use native.Mathlib.Omega.{arith}
 use lib.ListN.{take, drop}
 use borrow.Author.Rules.{rules}
-use Rattle.fields.specs.Fields.{fiveFields}
-use Rattle.book.specs.Which.{zoneAnswer}
+use Rattle.fields.specs.Fields.{five_fields}
+use Rattle.book.specs.Which.{zone_answer}
 use Rattle.book.proofs.which.zone_at.Statement.{statement}
 use Rattle.book.proofs.which.zone_at.Tie as tie
 
@@ -25,17 +25,17 @@ zone-answer-requires : tie.Need-zone-answer-requires
 zone-answer-requires c κs =
     let s = c.before.before.args in
     let e : s.at + s.size - s.at ≡ s.size = omega arith in
-    ap (λ n. fiveFields (take n (drop s.at s.book.now))) e ∙ c.before.before.requires.1
+    ap (λ n. five_fields (take n (drop s.at s.book.now))) e ∙ c.before.before.requires.1
 
 returns : tie.Need-returns
 returns c =
     let s = c.before.before.before.args in
     let e : s.at + s.size - s.at ≡ s.size = omega arith in
     c.zone-answer.ensures
-    ∙ ap (λ n. zoneAnswer s.grid s.query (take n (drop s.at s.book.now))) e
+    ∙ ap (λ n. zone_answer s.grid s.query (take n (drop s.at s.book.now))) e
 
-pub zone-at-spec : {M : Type 1} → statement M
-zone-at-spec =
+pub zone_at_spec : {M : Type 1} → statement M
+zone_at_spec =
     tie.close
     (tie.spec
     add-end

@@ -24,6 +24,6 @@ returns c =
     let p = c.before.before in
     rw (p.before.with-zone.ensures, p.before.before.before.sets-in.ensures) at p.put-sets.ensures
 
-pub put-zone-spec : {M : Type 1} → statement M
-put-zone-spec =
+pub put_zone_spec : {M : Type 1} → statement M
+put_zone_spec =
     tie.close (tie.spec sets-in-requires with-zone-requires put-sets-requires same_length returns)

@@ -1,6 +1,6 @@
 -- `add_each` meets its contract, with an index or none.
 use borrow.Author.Rules.{rules}
-use Rattle.cones.proofs.Laws.Index.{none-on}
+use Rattle.cones.proofs.Laws.Index.{none_on}
 use Rattle.book_feed.proofs.indexed.add_each.Statement.{statement}
 use Rattle.book_feed.proofs.indexed.add_each.Tie as tie
 
@@ -57,7 +57,7 @@ no-index-requires c κs = search rules
 add-judged-requires : tie.Need-add-judged-requires
 add-judged-requires c κs =
     let s = c.before.before.before.before.before.before.before.before.before.before.before in
-    (s.requires.0, (rw c.before.no_index.ensures (none-on _ _ _ _ _), s.requires.1))
+    (s.requires.0, (rw c.before.no_index.ensures (none_on _ _ _ _ _), s.requires.1))
 
 same-length-3 : tie.Need-same-length-3
 same-length-3 c = search rules
@@ -65,8 +65,8 @@ same-length-3 c = search rules
 returns-3 : tie.Need-returns-3
 returns-3 c = c.before.before.before.add-judged.ensures
 
-pub add-each-spec : {M : Type 1} → statement M
-add-each-spec =
+pub add_each_spec : {M : Type 1} → statement M
+add_each_spec =
     tie.close
     (tie.spec
     is-worth-requires

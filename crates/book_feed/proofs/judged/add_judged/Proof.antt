@@ -8,23 +8,23 @@ use lib.IntN.{ℤ}
 use lib.ListN.{length}
 use Rattle.sphere.specs.declared.point.Grid.{Grid}
 use Rattle.sphere.specs.declared.point.Point.{Point}
-use Rattle.sphere.specs.Point.{limitOf}
+use Rattle.sphere.specs.Point.{limit_of}
 use Rattle.answer.specs.declared.Answer.{Answer}
 use Rattle.polygon.specs.Verdict.{answer_of}
-use Rattle.polygon.specs.Pair.{judgeFrom}
-use Rattle.feed.specs.Feed.{queryCount}
+use Rattle.polygon.specs.Pair.{judge_from}
+use Rattle.feed.specs.Feed.{query_count}
 use Rattle.book_feed.specs.Adding.{SameSets}
-use Rattle.book_feed.proofs.Laws.Adding.{partly, nothing-added, added-holds, added-step, added-done}
+use Rattle.book_feed.proofs.Laws.Adding.{partly, nothing_added, added_holds, added_step, added_done}
 use Rattle.book_feed.proofs.judged.add_judged.Statement.{statement}
 use Rattle.book_feed.proofs.judged.add_judged.Tie as tie
 
 -- The single call's answer.
 abbrev single : Grid → List ℤ → Point → Point → Point → Answer
-single grid vs X Y P = answer_of (limitOf grid) vs (judgeFrom X Y P) P
+single grid vs X Y P = answer_of (limit_of grid) vs (judge_from X Y P) P
 
 abbrev invariant-loop : tie.invariant-loop
 invariant-loop grid vertices boxes sectors table buckets list near₀ index planes far known second zone queries results₀ n k₀ near results k =
-    (k ≤ queryCount queries) × (results ≡ partly zone (single grid vertices known second) queries results₀ k)
+    (k ≤ query_count queries) × (results ≡ partly zone (single grid vertices known second) queries results₀ k)
     × (length results ≡ length results₀) × (length near ≡ length near₀)
 
 abbrev decreases-loop : tie.decreases-loop
@@ -50,7 +50,7 @@ loop-holds : tie.Need-loop-init invariant-loop decreases-loop
 loop-holds c =
     let s = c.before.before.before.before.before.before.before.args in (
       omega arith,
-      nothing-added s.zone (single s.grid s.vertices.now s.known s.second) s.queries.now
+      nothing_added s.zone (single s.grid s.vertices.now s.known s.second) s.queries.now
           s.results.now,
       refl,
       refl,
@@ -82,7 +82,7 @@ add-to-requires c κs =
     let s = start l in
     let a = s.args in (
       s.pre.1.1.1.0,
-      added-holds a.zone (answered l) a.queries.now a.results.now s.pre.1.1.1.1 l.loop.k
+      added_holds a.zone (answered l) a.queries.now a.results.now s.pre.1.1.1.1 l.loop.k
           t.loop-test.true _ l.loop.invariant.1,
     )
 
@@ -105,7 +105,7 @@ loop-again c =
     let a = s.args in
     let room = (s.pre.1.1.1.1.each l.loop.k t.loop-test.true).room in (
       omega arith,
-      added-step a.zone (answered l) a.queries.now a.results.now l.loop.k j.answer-for.result _ _
+      added_step a.zone (answered l) a.queries.now a.results.now l.loop.k j.answer-for.result _ _
           (omega (arith, room)) l.loop.invariant.1
           (subst (λ P. SameSets j.answer-for.result (answered l P)) p.point_at.ensures j.answer-for.ensures)
           w.add-to.ensures,
@@ -124,11 +124,11 @@ returns c =
     let l = c.before in
     let a = (start l).args in
     l.loop.invariant.1
-    ∙ added-done a.zone (answered l) a.queries.now a.results.now _
+    ∙ added_done a.zone (answered l) a.queries.now a.results.now _
     (omega (arith, c.loop-test.false, l.loop.invariant.0))
 
-pub add-judged-spec : {M : Type 1} → statement M
-add-judged-spec =
+pub add_judged_spec : {M : Type 1} → statement M
+add_judged_spec =
     tie.close
     (tie.spec
     invariant-loop

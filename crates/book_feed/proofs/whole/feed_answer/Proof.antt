@@ -1,7 +1,7 @@
 -- `feed_answer` meets its contract.
 use mathlib.Core.Path.{sym, ◌∙◌}
 use borrow.Author.Rules.{rules}
-use Rattle.book_feed.specs.Feed.{bookFeedOf}
+use Rattle.book_feed.specs.Feed.{book_feed_of}
 use Rattle.book_feed.proofs.whole.feed_answer.Statement.{statement}
 use Rattle.book_feed.proofs.whole.feed_answer.Tie as tie
 
@@ -15,12 +15,12 @@ enum-known-number : tie.Need-enum-known-number
 enum-known-number c = search rules
 
 returns : tie.Need-returns
-unfolding bookFeedOf
+unfolding book_feed_of
 returns c = rw (sym c.before.before.feed-check.ensures ∙ c.enum_told.given.1)
 
 returns-2 : tie.Need-returns-2
-unfolding bookFeedOf
+unfolding book_feed_of
 returns-2 c = rw (sym c.before.before.before.feed-check.ensures ∙ c.before.number.given.1)
 
-pub feed-answer-spec : {M : Type 1} → statement M
-feed-answer-spec = tie.close (tie.spec feed-check-requires enum_told enum-known-number returns returns-2)
+pub feed_answer_spec : {M : Type 1} → statement M
+feed_answer_spec = tie.close (tie.spec feed-check-requires enum_told enum-known-number returns returns-2)

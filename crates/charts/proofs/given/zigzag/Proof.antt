@@ -43,8 +43,8 @@ loop-again c = search rules
 returns : tie.Need-returns invariant-loop decreases-loop
 returns c = search rules
 
-pub zigzag-spec : {M : Type 1} → statement M
-zigzag-spec =
+pub zigzag_spec : {M : Type 1} → statement M
+zigzag_spec =
     tie.close
     (tie.spec
     invariant-loop

@@ -8,15 +8,15 @@ use borrow.Author.Rules.{rules}
 use borrow.Author.Tests.{eq-eqb, ne_eqb}
 use lib.Dec.{eqb}
 use lib.ListN.{length}
-use Rattle.big_endian.specs.Bytes.{byteAt}
-use Rattle.answer.proofs.Laws.Search.{Searched, searched-start, searched-step, searched-hit, searched-end}
-use Rattle.compare.specs.Ring.{isNowhere}
-use Rattle.compare.specs.Differences.{isSameRow}
+use Rattle.big_endian.specs.Bytes.{byte_at}
+use Rattle.answer.proofs.Laws.Search.{Searched, searched_start, searched_step, searched_hit, searched_end}
+use Rattle.compare.specs.Ring.{is_nowhere}
+use Rattle.compare.specs.Differences.{is_same_row}
 use Rattle.compare.proofs.differences.is_same_row.Statement.{statement}
 use Rattle.compare.proofs.differences.is_same_row.Tie as tie
 
 abbrev test : List ℕ → List ℕ → ℕ → Bool
-test l r i = not (eqb (byteAt l i) (byteAt r i))
+test l r i = not (eqb (byte_at l i) (byte_at r i))
 
 abbrev invariant-loop : tie.invariant-loop
 invariant-loop l r i₀ i-end i = (i-end ≡ length l) × (i ≤ length l) × Searched (test l r) (length l) i
@@ -25,11 +25,11 @@ abbrev decreases-loop : tie.decreases-loop
 decreases-loop l r i₀ i-end i = i-end - i
 
 returns : tie.Need-returns invariant-loop decreases-loop
-unfolding isSameRow
+unfolding is_same_row
 returns c = sym (rw (ne_eqb _ _ c.if1.true))
 
 loop-holds : tie.Need-loop-init invariant-loop decreases-loop
-loop-holds c = (omega arith, omega arith, searched-start _ _)
+loop-holds c = (omega arith, omega arith, searched_start _ _)
 
 shared-slice-read-if2 : tie.Need-shared-slice-read-if2 invariant-loop decreases-loop
 shared-slice-read-if2 c = omega arith
@@ -38,11 +38,11 @@ shared-slice-read-if2-2 : tie.Need-shared-slice-read-if2-2 invariant-loop decrea
 shared-slice-read-if2-2 c = omega arith
 
 returns-2 : tie.Need-returns-2 invariant-loop decreases-loop
-unfolding isSameRow
+unfolding is_same_row
 returns-2 c =
     let g = c.before.before.before.before in
-    sym (rw (eq-eqb _ _ g.before.if1.false) (ap isNowhere
-    (searched-hit (omega arith) (ap not (ne_eqb _ _ c.if2.true)) g.loop.invariant.2)))
+    sym (rw (eq-eqb _ _ g.before.if1.false) (ap is_nowhere
+    (searched_hit (omega arith) (ap not (ne_eqb _ _ c.if2.true)) g.loop.invariant.2)))
 
 add-i : tie.Need-overflow-add-i invariant-loop decreases-loop
 add-i c = search rules
@@ -53,16 +53,16 @@ loop-less c = search rules
 loop-again : tie.Need-loop-preserved invariant-loop decreases-loop
 loop-again c =
     let g = c.before.before.before.before in
-    (refl, omega arith, searched-step (omega arith) (ap not (eq-eqb _ _ c.if2.false)) g.loop.invariant.2)
+    (refl, omega arith, searched_step (omega arith) (ap not (eq-eqb _ _ c.if2.false)) g.loop.invariant.2)
 
 returns-3 : tie.Need-returns-3 invariant-loop decreases-loop
-unfolding isSameRow
+unfolding is_same_row
 returns-3 c =
     let g = c.before in
-    sym (rw (eq-eqb _ _ g.before.if1.false) (ap isNowhere (searched-end (omega arith) g.loop.invariant.2)))
+    sym (rw (eq-eqb _ _ g.before.if1.false) (ap is_nowhere (searched_end (omega arith) g.loop.invariant.2)))
 
-pub is-same-row-spec : {M : Type 1} → statement M
-is-same-row-spec =
+pub is_same_row_spec : {M : Type 1} → statement M
+is_same_row_spec =
     tie.close
     (tie.spec
     invariant-loop

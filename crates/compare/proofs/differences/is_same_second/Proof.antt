@@ -3,7 +3,7 @@ use mathlib.Core.Path.{◌≡◌, sym, ◌∙◌}
 use mathlib.Core.Bool.{false}
 use borrow.Author.Rules.{rules}
 use Rattle.sphere.specs.Point.{is_null}
-use Rattle.compare.specs.Differences.{isSameSecond}
+use Rattle.compare.specs.Differences.{is_same_second}
 use Rattle.compare.proofs.differences.is_same_second.Statement.{statement}
 use Rattle.compare.proofs.differences.is_same_second.Tie as tie
 
@@ -14,7 +14,7 @@ is-null-requires-2 : tie.Need-is-null-requires-2
 is-null-requires-2 c κs = search rules
 
 returns : tie.Need-returns
-unfolding isSameSecond
+unfolding is_same_second
 returns c = c.is-null2.ensures ∙ sym (rw (sym c.before.before.is-null.ensures ∙ c.before.if1.true))
 
 -- There is a left point.
@@ -25,7 +25,7 @@ is-null-requires-3 : tie.Need-is-null-requires-3
 is-null-requires-3 c κs = search rules
 
 returns-2 : tie.Need-returns-2
-unfolding isSameSecond
+unfolding is_same_second
 returns-2 c =
     let n = c.before in
     sym (rw (some n.before, sym n.is-null3.ensures ∙ c.if2.true))
@@ -34,13 +34,13 @@ same-direction-requires : tie.Need-same-direction-requires
 same-direction-requires c κs = search rules
 
 returns-3 : tie.Need-returns-3
-unfolding isSameSecond
+unfolding is_same_second
 returns-3 c =
     let n = c.before.before in
     c.same-direction.ensures ∙ sym (rw (some n.before, sym n.is-null3.ensures ∙ c.before.if2.false))
 
-pub is-same-second-spec : {M : Type 1} → statement M
-is-same-second-spec =
+pub is_same_second_spec : {M : Type 1} → statement M
+is_same_second_spec =
     tie.close
     (tie.spec
     is-null-requires

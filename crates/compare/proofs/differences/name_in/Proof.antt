@@ -4,14 +4,14 @@ use Prim.Native.Nat.{ℕ, ◌+◌, ◌-◌, ◌≤◌}
 use native.Mathlib.Omega.{arith}
 use borrow.Author.Rules.{rules}
 use lib.ListN.{length, take, drop}
-use Rattle.fields.proofs.Laws.Fields.{passed-spans}
+use Rattle.fields.proofs.Laws.Fields.{passed_spans}
 use Rattle.compare.proofs.differences.name_in.Statement.{statement}
 use Rattle.compare.proofs.differences.name_in.Tie as tie
 
 -- The name ends within the sheet.
 within : (c : tie.Start) → 14 + c.args.len ≤ length c.args.b.now
 within c =
-    let spans = passed-spans c.args.b.now c.requires.0 in
+    let spans = passed_spans c.args.b.now c.requires.0 in
     omega (arith, c.requires.1, spans.known_at, spans.second_at, spans.ends)
 
 add_at : tie.Need-overflow-add-at
@@ -35,6 +35,6 @@ returns c =
     let size : 14 + s.args.len - 14 ≡ s.args.len = omega arith in
     ap (λ (n : ℕ). take n (drop 14 s.args.b.now)) (size ∙ s.requires.1)
 
-pub name-in-spec : {M : Type 1} → statement M
-name-in-spec =
+pub name_in_spec : {M : Type 1} → statement M
+name_in_spec =
     tie.close (tie.spec add_at add-result sub-result part-result-start part-result-end returns)

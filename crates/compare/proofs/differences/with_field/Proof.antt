@@ -19,5 +19,5 @@ returns-2 : tie.Need-returns-2
 unfolding pushed
 returns-2 c = sym (rw c.if1.false)
 
-pub with-field-spec : {M : Type 1} → statement M
-with-field-spec = tie.close (tie.spec array-write-numbers add-t10 returns returns-2)
+pub with_field_spec : {M : Type 1} → statement M
+with_field_spec = tie.close (tie.spec array-write-numbers add-t10 returns returns-2)

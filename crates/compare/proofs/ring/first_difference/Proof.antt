@@ -4,19 +4,19 @@ use mathlib.Core.List.{List}
 use Prim.Native.Nat.{ℕ, ◌-◌, ◌≤◌}
 use native.Mathlib.Omega.{arith}
 use borrow.Author.Rules.{rules}
-use Rattle.answer.proofs.Laws.Search.{Searched, searched-start, searched-step, searched-hit, searched-end}
-use Rattle.polygon.specs.Vertices.{vertexCount}
-use Rattle.compare.specs.Ring.{differsAt, leastOf, or_else, differenceOf, ringOf}
-use Rattle.compare.proofs.Laws.Ring.{ring-count, least-both}
+use Rattle.answer.proofs.Laws.Search.{Searched, searched_start, searched_step, searched_hit, searched_end}
+use Rattle.polygon.specs.Vertices.{vertices_count}
+use Rattle.compare.specs.Ring.{differs_at, least_of, or_else, difference_of, ring_of}
+use Rattle.compare.proofs.Laws.Ring.{ring_count, least_both}
 use Rattle.compare.proofs.ring.first_difference.Statement.{statement}
 use Rattle.compare.proofs.ring.first_difference.Tie as tie
 
 abbrev size : List ℕ → List ℕ → ℕ
-size l r = leastOf (vertexCount (ringOf l)) (vertexCount (ringOf r))
+size l r = least_of (vertices_count (ring_of l)) (vertices_count (ring_of r))
 
 abbrev invariant-loop : tie.invariant-loop
 invariant-loop left right n i₀ i =
-    (n ≡ size left right) × (i ≤ n) × Searched (differsAt (ringOf left) (ringOf right) (λ i. i)) (size left right) i
+    (n ≡ size left right) × (i ≤ n) × Searched (differs_at (ring_of left) (ring_of right) (λ i. i)) (size left right) i
 
 abbrev decreases-loop : tie.decreases-loop
 decreases-loop left right n i₀ i = n - i
@@ -30,26 +30,26 @@ least-requires c κs = search rules
 loop-holds : tie.Need-loop-init invariant-loop decreases-loop
 loop-holds c =
     let a = (start c.before).args in
-    let sizes = ap₂ leastOf (ring-count a.left.now) (ring-count a.right.now) in
-    (c.least.ensures ∙ sym sizes, omega arith, searched-start _ _)
+    let sizes = ap₂ least_of (ring_count a.left.now) (ring_count a.right.now) in
+    (c.least.ensures ∙ sym sizes, omega arith, searched_start _ _)
 
 differs-requires : tie.Need-differs-requires invariant-loop decreases-loop
 differs-requires c κs =
     let s = start c.before.before.before in
-    let l = ring-count s.args.left.now in
-    let r = ring-count s.args.right.now in
-    let both = least-both (vertexCount (ringOf s.args.left.now)) (vertexCount (ringOf s.args.right.now)) in
+    let l = ring_count s.args.left.now in
+    let r = ring_count s.args.right.now in
+    let both = least_both (vertices_count (ring_of s.args.left.now)) (vertices_count (ring_of s.args.right.now)) in
     let n = c.before.loop.invariant.0 in
     (s.pre, (omega (arith, both.0, n, l), omega (arith, both.1, n, r)))
 
 returns : tie.Need-returns invariant-loop decreases-loop
-unfolding differenceOf
+unfolding difference_of
 returns c =
     let s = c.before.before in
     let a = (start s.before.before.before).args in
     let n = s.before.loop.invariant.0 in
     sym (ap (λ f. or_else f (size a.left.now a.right.now))
-    (searched-hit (omega (arith, n)) (sym c.before.differs.ensures ∙ c.if1.true) s.before.loop.invariant.2))
+    (searched_hit (omega (arith, n)) (sym c.before.differs.ensures ∙ c.if1.true) s.before.loop.invariant.2))
 
 add-i : tie.Need-overflow-add-i invariant-loop decreases-loop
 add-i c = search rules
@@ -63,19 +63,19 @@ loop-again c =
     let n = s.before.loop.invariant.0 in (
       n,
       omega arith,
-      searched-step (omega (arith, n)) (sym c.before.differs.ensures ∙ c.if1.false) s.before.loop.invariant.2,
+      searched_step (omega (arith, n)) (sym c.before.differs.ensures ∙ c.if1.false) s.before.loop.invariant.2,
     )
 
 returns-2 : tie.Need-returns-2 invariant-loop decreases-loop
-unfolding differenceOf
+unfolding difference_of
 returns-2 c =
     let a = (start c.before.before.before).args in
     let n = c.before.loop.invariant.0 in
     n ∙ sym (ap (λ f. or_else f (size a.left.now a.right.now))
-    (searched-end (omega (arith, n)) c.before.loop.invariant.2))
+    (searched_end (omega (arith, n)) c.before.loop.invariant.2))
 
-pub first-difference-spec : {M : Type 1} → statement M
-first-difference-spec =
+pub first_difference_spec : {M : Type 1} → statement M
+first_difference_spec =
     tie.close
     (tie.spec
     invariant-loop

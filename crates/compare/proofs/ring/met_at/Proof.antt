@@ -1,7 +1,7 @@
 -- `ring::met_at` meets its contract.
 use mathlib.Core.Path.{sym, ◌∙◌}
 use borrow.Author.Rules.{rules}
-use Rattle.compare.specs.Ring.{metAt}
+use Rattle.compare.specs.Ring.{met_at}
 use Rattle.compare.proofs.ring.met_at.Statement.{statement}
 use Rattle.compare.proofs.ring.met_at.Tie as tie
 
@@ -15,7 +15,7 @@ round-requires : tie.Need-round-requires
 round-requires c κs = search rules
 
 returns : tie.Need-returns
-unfolding metAt
+unfolding met_at
 returns c = c.round.ensures ∙ sym (rw c.before.if1.true)
 
 add-round-2 : tie.Need-overflow-add-round-2
@@ -25,10 +25,10 @@ round-requires-2 : tie.Need-round-requires-2
 round-requires-2 c κs = search rules
 
 returns-2 : tie.Need-returns-2
-unfolding metAt
+unfolding met_at
 returns-2 c = c.round2.ensures ∙ sym (rw c.before.if1.false)
 
-pub met-at-spec : {M : Type 1} → statement M
-met-at-spec =
+pub met_at_spec : {M : Type 1} → statement M
+met_at_spec =
     tie.close
     (tie.spec sub-round add-round round-requires returns add-round-2 round-requires-2 returns-2)

@@ -8,35 +8,35 @@ use borrow.Author.Tests.{eq-eqb, ne_eqb}
 use lib.Dec.{eqb}
 use Rattle.answer.specs.declared.Found.{Found}
 use Rattle.answer.specs.declared.Found.TheVariants.{Nothing, At}
-use Rattle.polygon.specs.Vertices.{vertexCount}
+use Rattle.polygon.specs.Vertices.{vertices_count}
 use Rattle.compare.specs.declared.ring.Placed.{Placed}
 use Rattle.compare.specs.declared.ring.Placed.TheVariants.{Apart, Forward, Backward}
-use Rattle.compare.specs.Ring.{firstMeeting, differenceOf, placed_of, ringSize, ringOf}
-use Rattle.compare.proofs.Laws.Ring.{ring-count}
+use Rattle.compare.specs.Ring.{first_meeting, difference_of, placed_of, ring_size, ring_of}
+use Rattle.compare.proofs.Laws.Ring.{ring_count}
 use Rattle.compare.proofs.ring.place_ring.Statement.{statement}
 use Rattle.compare.proofs.ring.place_ring.Tie as tie
 
 -- The cases of the definition.
 module _ (l r : List ℕ) where
   abbrev placed : Placed
-  placed = placed_of (ringOf l) (ringOf r)
+  placed = placed_of (ring_of l) (ring_of r)
 
   abbrev difference : ℕ
-  difference = differenceOf (ringOf l) (ringOf r)
+  difference = difference_of (ring_of l) (ring_of r)
 
   abbrev found : Bool → Found
-  found back = firstMeeting (ringOf l) (ringOf r) back
+  found back = first_meeting (ring_of l) (ring_of r) back
 
-  other-size : (ringSize r ≡ ringSize l → ⊥) → Apart difference ≡ placed
+  other_size : (ring_size r ≡ ring_size l → ⊥) → Apart difference ≡ placed
   unfolding placed_of
-  other-size n = sym (rw (ne_eqb (vertexCount (ringOf r)) (vertexCount (ringOf l)) sizes))
+  other_size n = sym (rw (ne_eqb (vertices_count (ring_of r)) (vertices_count (ring_of l)) sizes))
     where
-      sizes : vertexCount (ringOf r) ≡ vertexCount (ringOf l) → ⊥
-      sizes e = n (sym (ring-count r) ∙ e ∙ ring-count l)
+      sizes : vertices_count (ring_of r) ≡ vertices_count (ring_of l) → ⊥
+      sizes e = n (sym (ring_count r) ∙ e ∙ ring_count l)
 
-  module _ (size : ringSize r ≡ ringSize l) where
-    one_size : eqb (vertexCount (ringOf r)) (vertexCount (ringOf l)) ≡ true
-    one_size = eq-eqb _ _ (ring-count r ∙ size ∙ sym (ring-count l))
+  module _ (size : ring_size r ≡ ring_size l) where
+    one_size : eqb (vertices_count (ring_of r)) (vertices_count (ring_of l)) ≡ true
+    one_size = eq-eqb _ _ (ring_count r ∙ size ∙ sym (ring_count l))
 
     forward-by : (k : ℕ) → found false ≡ At k → Forward k ≡ placed
     unfolding placed_of
@@ -54,7 +54,7 @@ first-difference-requires : tie.Need-first-difference-requires
 first-difference-requires c κs = search rules
 
 returns : tie.Need-returns
-returns c = ap Apart c.first-difference.ensures ∙ other-size _ _ c.before.if1.true
+returns c = ap Apart c.first-difference.ensures ∙ other_size _ _ c.before.if1.true
 
 first-meeting-requires : tie.Need-first-meeting-requires
 first-meeting-requires c κs = search rules
@@ -100,8 +100,8 @@ returns-4 c =
     ∙ apart_by _ _ m.before.if1.false (sym m.first-meeting.ensures ∙ t.enum_told.given.1)
     (sym b.first-meeting2.ensures ∙ u.enum-told2.given.1)
 
-pub place-ring-spec : {M : Type 1} → statement M
-place-ring-spec =
+pub place_ring_spec : {M : Type 1} → statement M
+place_ring_spec =
     tie.close
     (tie.spec
     first-difference-requires

@@ -1,7 +1,7 @@
 -- `ring::vertex_in` meets its contract.
 use mathlib.Core.Path.{sym, ◌∙◌}
 use borrow.Author.Rules.{rules}
-use Rattle.compare.proofs.Laws.Ring.{ring-point}
+use Rattle.compare.proofs.Laws.Ring.{ring_point}
 use Rattle.compare.proofs.ring.vertex_in.Statement.{statement}
 use Rattle.compare.proofs.ring.vertex_in.Tie as tie
 
@@ -14,7 +14,7 @@ point-at-requires c κs = search rules
 returns : tie.Need-returns
 returns c =
     let s = c.before.before in
-    c.point_at.ensures ∙ sym (ring-point s.args.ring.now s.args.i s.requires)
+    c.point_at.ensures ∙ sym (ring_point s.args.ring.now s.args.i s.requires)
 
-pub vertex-in-spec : {M : Type 1} → statement M
-vertex-in-spec = tie.close (tie.spec mul-point-at point-at-requires returns)
+pub vertex_in_spec : {M : Type 1} → statement M
+vertex_in_spec = tie.close (tie.spec mul-point-at point-at-requires returns)

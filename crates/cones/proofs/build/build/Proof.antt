@@ -1,16 +1,16 @@
 -- `build` meets its contract: the buckets are a hint.
 use borrow.Author.Rules.{rules}
-use Rattle.sphere.specs.Point.{fine, limitOf, Within}
+use Rattle.sphere.specs.Point.{fine, limit_of, Within}
 use Rattle.sphere.proofs.Laws.Plane.{grid→fine}
 use Rattle.polygon.specs.Accepted.{Accepted}
-use Rattle.polygon.proofs.Laws.Checks.{accept-passed, accepted-some}
+use Rattle.polygon.proofs.Laws.Checks.{accept_passed, accepted_some}
 use Rattle.cones.proofs.build.build.Statement.{statement}
 use Rattle.cones.proofs.build.build.Tie as tie
 
 -- The polygon and the reference point, on either grid.
 module _ (s : tie.Start) where
-  accepted : Accepted (limitOf s.args.grid) s.args.vertices.now s.args.known
-  accepted = accept-passed s.requires.0.0
+  accepted : Accepted (limit_of s.args.grid) s.args.vertices.now s.args.known
+  accepted = accept_passed s.requires.0.0
 
   known : Within fine s.args.known
   known = grid→fine s.args.grid accepted.known
@@ -18,7 +18,7 @@ module _ (s : tie.Start) where
 frame-of-requires : tie.Need-frame-of-requires
 frame-of-requires c κs =
     let s = c.before.before.before.before.before in
-    (known s, accepted-some (limitOf s.args.grid) s.args.vertices.now s.args.known s.requires.0.0)
+    (known s, accepted_some (limit_of s.args.grid) s.args.vertices.now s.args.known s.requires.0.0)
 
 put-sectors-requires : tie.Need-put-sectors-requires
 put-sectors-requires c κs =
@@ -53,8 +53,8 @@ same-length-5 c = search rules
 returns : tie.Need-returns
 returns c = search rules
 
-pub build-spec : {M : Type 1} → statement M
-build-spec =
+pub build_spec : {M : Type 1} → statement M
+build_spec =
     tie.close
     (tie.spec
     frame-of-requires

@@ -45,8 +45,8 @@ same-length-3 c = search rules
 returns : tie.Need-returns
 returns c = search rules
 
-pub grow-root-spec : {M : Type 1} → statement M
-grow-root-spec =
+pub grow_root_spec : {M : Type 1} → statement M
+grow_root_spec =
     tie.close
     (tie.spec
     mul-lo

@@ -6,7 +6,7 @@ use native.Mathlib.Omega.{arith}
 use borrow.Author.Rules.{rules}
 use lib.ListN.{length}
 use Rattle.cones.specs.Table.{Indexed}
-use Rattle.cones.proofs.Laws.Index.{none-indexed}
+use Rattle.cones.proofs.Laws.Index.{none_indexed}
 use Rattle.cones.proofs.build.grow_roots.Statement.{statement}
 use Rattle.cones.proofs.build.grow_roots.Tie as tie
 
@@ -14,9 +14,9 @@ use Rattle.cones.proofs.build.grow_roots.Tie as tie
 record Grown (n : ℕ) (sectors table₀ list₀ stack₀ table list stack : List ℕ) (nodes top r : ℕ) : Type 0 where
   most : r ≤ 4
   indexed : Indexed n sectors table list nodes top
-  same-table : length table ≡ length table₀
-  same-list : length list ≡ length list₀
-  same-stack : length stack ≡ length stack₀
+  same_table : length table ≡ length table₀
+  same_list : length list ≡ length list₀
+  same_stack : length stack ≡ length stack₀
 
 abbrev invariant-loop : tie.invariant-loop
 invariant-loop n sectors table₀ list₀ stack₀ size₀ r₀ table list stack size r =
@@ -28,10 +28,10 @@ decreases-loop n sectors table₀ list₀ stack₀ size₀ r₀ table list stack
 loop-holds : tie.Need-loop-init invariant-loop decreases-loop
 loop-holds c = record {
   most = omega arith;
-  indexed = none-indexed _ _ _ _;
-  same-table = refl;
-  same-list = refl;
-  same-stack = refl;
+  indexed = none_indexed _ _ _ _;
+  same_table = refl;
+  same_list = refl;
+  same_stack = refl;
 }
 
 grow-root-requires : tie.Need-grow-root-requires invariant-loop decreases-loop
@@ -57,9 +57,9 @@ loop-again c =
     let i = q.before.before.before.before.before.loop.invariant in record {
       most = omega arith;
       indexed = g.ensures;
-      same-table = g.auto.1.1.0 ∙ i.same-table;
-      same-list = g.auto.1.1.1.0 ∙ i.same-list;
-      same-stack = g.auto.1.1.1.1.0 ∙ i.same-stack;
+      same_table = g.auto.1.1.0 ∙ i.same-table;
+      same_list = g.auto.1.1.1.0 ∙ i.same-list;
+      same_stack = g.auto.1.1.1.1.0 ∙ i.same-stack;
     }
 
 same_length : tie.Need-same-length invariant-loop decreases-loop
@@ -74,8 +74,8 @@ same-length-3 c = c.before.loop.invariant.same-stack
 returns : tie.Need-returns invariant-loop decreases-loop
 returns c = c.before.loop.invariant.indexed
 
-pub grow-roots-spec : {M : Type 1} → statement M
-grow-roots-spec =
+pub grow_roots_spec : {M : Type 1} → statement M
+grow_roots_spec =
     tie.close
     (tie.spec
     invariant-loop

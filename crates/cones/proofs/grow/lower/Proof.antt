@@ -7,7 +7,7 @@ use borrow.Author.Tests.{not-false}
 use lib.ListN.{length}
 use Rattle.cones.specs.Table.{Halvable, Allows}
 use Rattle.cones.proofs.Laws.Covers.{entries}
-use Rattle.cones.proofs.Laws.Split.{lower-on}
+use Rattle.cones.proofs.Laws.Split.{lower_on}
 use Rattle.cones.proofs.grow.lower.Statement.{statement}
 use Rattle.cones.proofs.grow.lower.Tie as tie
 
@@ -92,7 +92,7 @@ returns-3 c =
     let k = may c.before in
     let s = start k in (
       f.framed,
-      lower-on s.pre.1 s.args.cone.lo (mid k) (omega arith) (first k) (omega (arith, rest k)) f _
+      lower_on s.pre.1 s.args.cone.lo (mid k) (omega arith) (first k) (omega (arith, rest k)) f _
           c.half_of_lem.ensures (rest k) (halvable k),
     )
 

@@ -34,6 +34,6 @@ returns-4 c = search rules
 returns-5 : tie.Need-returns-5
 returns-5 c = search rules
 
-pub share-spec : {M : Type 1} → statement M
-share-spec =
+pub share_spec : {M : Type 1} → statement M
+share_spec =
     tie.close (tie.spec returns returns-2 returns-3 mul-part add-part div-part returns-4 returns-5)

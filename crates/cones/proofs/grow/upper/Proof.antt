@@ -3,7 +3,7 @@ use Prim.Native.Nat.{◌+◌}
 use native.Mathlib.Omega.{arith}
 use borrow.Author.Rules.{rules}
 use Rattle.cones.proofs.Laws.Covers.{entries}
-use Rattle.cones.proofs.Laws.Split.{half-on}
+use Rattle.cones.proofs.Laws.Split.{half_on_lem}
 use Rattle.cones.proofs.grow.upper.Statement.{statement}
 use Rattle.cones.proofs.grow.upper.Tie as tie
 
@@ -34,9 +34,9 @@ returns c =
     let s = sifted.before.before.before.before in
     let v = s.args in (
       f.framed,
-      half-on s.requires.0.1 (v.mid + 1) v.cone.last (omega (arith, s.requires.1.1)) (omega (arith, s.requires.1.2))
+      half_on_lem s.requires.0.1 (v.mid + 1) v.cone.last (omega (arith, s.requires.1.1)) (omega (arith, s.requires.1.2))
           (omega arith) f _ c.half_of_lem.ensures,
     )
 
-pub upper-spec : {M : Type 1} → statement M
-upper-spec = tie.close (tie.spec add-lo sift-requires half-of-requires same_length returns)
+pub upper_spec : {M : Type 1} → statement M
+upper_spec = tie.close (tie.spec add-lo sift-requires half-of-requires same_length returns)

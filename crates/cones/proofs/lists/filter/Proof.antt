@@ -10,7 +10,7 @@ use borrow.Author.Rules.{rules}
 use borrow.Author.Tests.{not-false}
 use lib.ListN.{length, get_or, set, length-set}
 use lib.Seq.{get_or-set_same, get_or-set_other}
-use Rattle.azimuths.specs.Sectors.{isMissed}
+use Rattle.azimuths.specs.Sectors.{is_missed}
 use Rattle.cones.specs.Lists.{Kept, begin, drop, copy, Framed}
 use Rattle.cones.proofs.Laws.Covers.{kept_same}
 use Rattle.cones.proofs.lists.filter.Statement.{statement}
@@ -65,7 +65,7 @@ module _ {test : ℕ → Bool} {l m : List ℕ} {from to end passed e : ℕ} (s 
 
 abbrev invariant-loop : tie.invariant-loop
 invariant-loop n sectors lo last k list₀ from to end₀ passed₀ e₀ list end passed e =
-    Filtering (isMissed sectors lo last) list₀ list from to end passed e
+    Filtering (is_missed sectors lo last) list₀ list from to end passed e
 
 abbrev decreases-loop : tie.decreases-loop
 decreases-loop n sectors lo last k list₀ from to end₀ passed₀ e₀ list end passed e = to - e
@@ -156,7 +156,7 @@ loop-again c =
     ⊎_elim
     (λ w. rw w.1 (copied inv h (fits t) _ small))
     (λ w. rw w.1 (dropped inv h (fits t) _ small
-    (subst (λ j. isMissed v.sectors.now v.lo v.last j ≡ true) m.before.wide.ensures.0
+    (subst (λ j. is_missed v.sectors.now v.lo v.last j ≡ true) m.before.wide.ensures.0
     (sym m.is-missed.ensures ∙ not-false _ w.0.left))))
     c.before.if1.branch
 
@@ -173,14 +173,14 @@ returns c =
         framed = inv.framed;
         after = inv.least;
         few = omega (arith, inv.few, all);
-        kept = subst (λ e. Kept (isMissed v.sectors.now v.lo v.last) v.list.now l.loop.list v.from
+        kept = subst (λ e. Kept (is_missed v.sectors.now v.lo v.last) v.list.now l.loop.list v.from
             v.to e l.loop.end) all inv.kept;
       },
       omega (arith, inv.hint, all),
     )
 
-pub filter-spec : {M : Type 1} → statement M
-filter-spec =
+pub filter_spec : {M : Type 1} → statement M
+filter_spec =
     tie.close
     (tie.spec
     invariant-loop

@@ -10,9 +10,9 @@ use borrow.Author.Tests.{not-false}
 use lib.ListN.{length, set, length-set}
 use lib.Seq.{get_or-set_same, get_or-set_other}
 use Rattle.azimuths.specs.Sectors.{MissedIn}
-use Rattle.azimuths.proofs.Laws.Ranges.{missed-range}
+use Rattle.azimuths.proofs.Laws.Ranges.{missed_range}
 use Rattle.cones.specs.Cones.{Covers, none, pass, keep}
-use Rattle.cones.proofs.Laws.Covers.{covers-same}
+use Rattle.cones.proofs.Laws.Covers.{covers_same}
 use Rattle.cones.proofs.lists.first_list.Statement.{statement}
 use Rattle.cones.proofs.lists.first_list.Tie as tie
 
@@ -27,7 +27,7 @@ record Listing (missed : ℕ → Type 0) (n : ℕ) (l₀ l : List ℕ) (end i : 
 module _ {missed : ℕ → Type 0} {n : ℕ} {l₀ l : List ℕ} {end i : ℕ} (s : Listing missed n l₀ l end i) (h : i < n)
     (r : end < length l) where
   still : Covers missed (set l end i) 0 i end
-  still = covers-same (λ x p q. get_or-set_other l end x i 0 (λ z. omega arith)) s.all
+  still = covers_same (λ x p q. get_or-set_other l end x i 0 (λ z. omega arith)) s.all
 
   passed : missed i → Listing missed n l₀ (set l end i) end (i + 1)
   passed p = record {
@@ -92,7 +92,7 @@ loop-again c =
     let h = t.loop-test.true in
     ⊎_elim
     (λ w. rw w.1 (taken inv h (fits t)))
-    (λ w. rw w.1 (passed inv h (fits t) (missed-range v.sectors.now v.lo v.last _ (start t).requires.0.3
+    (λ w. rw w.1 (passed inv h (fits t) (missed_range v.sectors.now v.lo v.last _ (start t).requires.0.3
     (sym m.is-missed.ensures ∙ not-false _ w.0.left))))
     c.if1.branch
 
@@ -113,8 +113,8 @@ returns c =
           inv.all;
     }
 
-pub first-list-spec : {M : Type 1} → statement M
-first-list-spec =
+pub first_list_spec : {M : Type 1} → statement M
+first_list_spec =
     tie.close
     (tie.spec
     invariant-loop

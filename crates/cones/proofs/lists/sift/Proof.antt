@@ -63,5 +63,5 @@ returns-2 c =
       f.filter.ensures.1,
     )
 
-pub sift-spec : {M : Type 1} → statement M
-sift-spec = tie.close (tie.spec filter-requires sub-if1 sub-if1-2 same_length returns same-length-2 returns-2)
+pub sift_spec : {M : Type 1} → statement M
+sift_spec = tie.close (tie.spec filter-requires sub-if1 sub-if1-2 same_length returns same-length-2 returns-2)

@@ -6,20 +6,20 @@ use native.Mathlib.Omega.{arith}
 use borrow.Author.Rules.{rules}
 use borrow.Author.Tests.{not-false}
 use lib.ListN.{length, get_or}
-use Rattle.azimuths.specs.Sectors.{isMissedAt}
-use Rattle.cones.proofs.Laws.Near.{Gathering, gather-start, gather-drop, gather-copy, gather-end}
+use Rattle.azimuths.specs.Sectors.{is_missed_at}
+use Rattle.cones.proofs.Laws.Near.{Gathering, gather_start, gather_drop, gather_copy, gather_end}
 use Rattle.cones.proofs.near.gather.Statement.{statement}
 use Rattle.cones.proofs.near.gather.Tie as tie
 
 abbrev invariant-loop : tie.invariant-loop
 invariant-loop n sectors k list from to near₀ end₀ e₀ near end e =
-    Gathering (isMissedAt sectors k) list near₀ near from to end e
+    Gathering (is_missed_at sectors k) list near₀ near from to end e
 
 abbrev decreases-loop : tie.decreases-loop
 decreases-loop n sectors k list from to near₀ end₀ e₀ near end e = to - e
 
 loop-holds : tie.Need-loop-init invariant-loop decreases-loop
-loop-holds c = gather-start c.before.before.before.requires.1.0
+loop-holds c = gather_start c.before.before.before.requires.1.0
 
 -- There is room for one more.
 fits : (c : tie.In-loop invariant-loop decreases-loop) → c.before.loop.end < length c.before.loop.near
@@ -58,10 +58,10 @@ module _ (c : tie.After-is-missed-at invariant-loop decreases-loop) where
   turn = c.before.before.before
 
   missed : let v = turn.before.before.before.before.before.args in
-      c.is-missed-at.result ≡ isMissedAt v.sectors.now v.k (get_or v.list.now turn.before.loop.e 0)
+      c.is-missed-at.result ≡ is_missed_at v.sectors.now v.k (get_or v.list.now turn.before.loop.e 0)
   missed =
       let v = turn.before.before.before.before.before.args in
-      c.is-missed-at.ensures ∙ ap (isMissedAt v.sectors.now v.k) c.before.wide.ensures.0
+      c.is-missed-at.ensures ∙ ap (is_missed_at v.sectors.now v.k) c.before.wide.ensures.0
 
 add-end : tie.Need-overflow-add-end invariant-loop decreases-loop
 add-end c = omega (arith, fits (turn c.before))
@@ -80,8 +80,8 @@ loop-again c =
     let inv = t.before.loop.inv in
     let h = t.loop-test.taken in
     ⊎_elim
-    (λ w. rw w.1 (gather-copy inv h (fits t)))
-    (λ w. rw w.1 (gather-drop inv h (sym (missed k) ∙ not-false _ w.0.left)))
+    (λ w. rw w.1 (gather_copy inv h (fits t)))
+    (λ w. rw w.1 (gather_drop inv h (sym (missed k) ∙ not-false _ w.0.left)))
     c.if1.branch
 
 same_length : tie.Need-same-length invariant-loop decreases-loop
@@ -89,10 +89,10 @@ same_length c = c.before.loop.invariant.room
 
 returns : tie.Need-returns invariant-loop decreases-loop
 returns c =
-    let l = c.before in gather-end l.loop.invariant c.loop-test.false l.before.before.before.before.requires.1.2
+    let l = c.before in gather_end l.loop.invariant c.loop-test.false l.before.before.before.before.requires.1.2
 
-pub gather-spec : {M : Type 1} → statement M
-gather-spec =
+pub gather_spec : {M : Type 1} → statement M
+gather_spec =
     tie.close
     (tie.spec
     invariant-loop

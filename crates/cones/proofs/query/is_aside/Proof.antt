@@ -19,5 +19,5 @@ returns c = λ h k. c.if1.true (ap (of_z w64) h)
 returns-2 : tie.Need-returns-2
 returns-2 c = let s = c.before.args in aside s.u s.v (eqb (of_z w64 s.v) 0) refl
 
-pub is-aside-spec : {M : Type 1} → statement M
-is-aside-spec = tie.close (tie.spec returns returns-2)
+pub is_aside_spec : {M : Type 1} → statement M
+is_aside_spec = tie.close (tie.spec returns returns-2)

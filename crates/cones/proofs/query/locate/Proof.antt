@@ -60,8 +60,8 @@ loop-again-2 c =
 returns : tie.Need-returns invariant-loop decreases-loop
 returns c = let l = c.before.loop.invariant in omega (arith, l.0, l.1)
 
-pub locate-spec : {M : Type 1} → statement M
-locate-spec =
+pub locate_spec : {M : Type 1} → statement M
+locate_spec =
     tie.close
     (tie.spec
     invariant-loop

@@ -10,23 +10,23 @@ use lib.Dec.{ltb, leb}
 use lib.ListN.{length}
 use mir.Syntax.{w64}
 use mir.Val.{to_z, of_z}
-use Rattle.integers.proofs.Compare.{result-same}
+use Rattle.integers.proofs.Compare.{result_same}
 use Rattle.sphere.specs.Point.{fine, Fits, Within}
-use Rattle.sphere.specs.Orientation.{dotOf}
-use Rattle.sphere.proofs.Laws.Grid.{points-dot}
+use Rattle.sphere.specs.Orientation.{dot_of}
+use Rattle.sphere.proofs.Laws.Grid.{points_dot}
 use Rattle.sphere.proofs.Laws.Plane.{grid→fine}
 use Rattle.answer.proofs.Laws.Chain.{both_true}
-use Rattle.polygon.specs.Vertices.{vertexCount}
-use Rattle.polygon.proofs.Laws.Checks.{accept-passed, reference-accepted}
-use Rattle.search.specs.Arc.{arcOf}
-use Rattle.search.specs.Walk.{tallyFrom}
-use Rattle.search.proofs.Laws.Arc.{arc-searchable}
-use Rattle.azimuths.specs.Azimuth.{seen, azimuthBy, azimuthOf, AsideIf, Aside}
-use Rattle.azimuths.proofs.Laws.Azimuth.{azimuth-below}
-use Rattle.azimuths.proofs.Laws.SectorsTo.{dot-seen}
+use Rattle.polygon.specs.Vertices.{vertices_count}
+use Rattle.polygon.proofs.Laws.Checks.{accept_passed, reference_accepted}
+use Rattle.search.specs.Arc.{arc_of}
+use Rattle.search.specs.Walk.{tally_from}
+use Rattle.search.proofs.Laws.Arc.{arc_searchable}
+use Rattle.azimuths.specs.Azimuth.{seen, azimuth_by, azimuth_of, AsideIf, Aside}
+use Rattle.azimuths.proofs.Laws.Azimuth.{azimuth_below}
+use Rattle.azimuths.proofs.Laws.SectorsTo.{dot_seen}
 use Rattle.azimuths.proofs.Laws.Sectors.{telling}
 use Rattle.cones.specs.Table.{Node}
-use Rattle.cones.proofs.Laws.Index.{row-complete}
+use Rattle.cones.proofs.Laws.Index.{row_complete}
 use Rattle.cones.proofs.query.tally_edges.Statement.{statement}
 use Rattle.cones.proofs.query.tally_edges.Tie as tie
 
@@ -36,33 +36,33 @@ module _ (s : tie.Start) where
   asked = grid→fine s.args.grid s.requires.0.1
 
   frame : Within fine s.args.index.frame.east × Within fine s.args.index.frame.north
-  frame = s.pre.1.frame.within fine (grid→fine s.args.grid (accept-passed s.pre.0.0).known)
+  frame = s.pre.1.frame.within fine (grid→fine s.args.grid (accept_passed s.pre.0.0).known)
 
 dot-requires : tie.Need-dot-requires
 dot-requires c κs =
-    let s = c.before.before.before.before.before.before in points-dot (frame s).0 (asked s)
+    let s = c.before.before.before.before.before.before in points_dot (frame s).0 (asked s)
 
 dot-requires-2 : tie.Need-dot-requires-2
 dot-requires-2 c κs =
-    let s = c.before.before.before.before.before.before.before in points-dot (frame s).1 (asked s)
+    let s = c.before.before.before.before.before.before.before in points_dot (frame s).1 (asked s)
 
 -- The coordinates of the query, as the two locals hold them.
 module _ (c : tie.After-dot2) where
   abbrev start : tie.Start
   start = c.before.before.before.before.before.before.before.before
 
-  along-east : to_z w64 (of_z w64 c.before.dot.result) ≡ dotOf start.args.index.frame.east start.args.query
-  along-east = result-same w64 c.before.dot.result c.before.dot.type-inv c.before.dot.ensures
+  along_east : to_z w64 (of_z w64 c.before.dot.result) ≡ dot_of start.args.index.frame.east start.args.query
+  along_east = result_same w64 c.before.dot.result c.before.dot.type-inv c.before.dot.ensures
 
-  along-north : to_z w64 (of_z w64 c.dot2.result) ≡ dotOf start.args.index.frame.north start.args.query
-  along-north = result-same w64 c.dot2.result c.dot2.type-inv c.dot2.ensures
+  along_north : to_z w64 (of_z w64 c.dot2.result) ≡ dot_of start.args.index.frame.north start.args.query
+  along_north = result_same w64 c.dot2.result c.dot2.type-inv c.dot2.ensures
 
 azimuth-by-requires : tie.Need-azimuth-by-requires
 azimuth-by-requires c κs =
     let s = start c in
     let f = s.args.index.frame in (
-      subst (Fits seen) (sym (along-east c)) (dot-seen f.east s.args.query (frame s).0 (asked s)),
-      subst (Fits seen) (sym (along-north c)) (dot-seen f.north s.args.query (frame s).1 (asked s)),
+      subst (Fits seen) (sym (along_east c)) (dot_seen f.east s.args.query (frame s).0 (asked s)),
+      subst (Fits seen) (sym (along_north c)) (dot_seen f.north s.args.query (frame s).1 (asked s)),
     )
 
 guess-requires : tie.Need-guess-requires
@@ -92,7 +92,7 @@ module _ (t : tie.Then1) where
   below = omega (arith, some, found.guess.ensures)
 
   room : found.guess.result * 4 ≤ length (start two).args.table.now
-  room = omega (arith, found.guess.ensures, (start two).pre.1.indexed.table-room)
+  room = omega (arith, found.guess.ensures, (start two).pre.1.indexed.table_room)
 
 sub-row-at : tie.Need-overflow-sub-row-at
 sub-row-at c = some c
@@ -111,15 +111,15 @@ module _ (r : tie.After-row-at) where
   abbrev at : ℕ
   at = (found one).before.azimuth-by.result
 
-  of-query : at ≡ azimuthOf s.args.index.frame s.args.query
-  unfolding azimuthOf
-  of-query = (found one).before.azimuth-by.ensures ∙ ap₂ azimuthBy (along-east (two one)) (along-north (two one))
+  of_query : at ≡ azimuth_of s.args.index.frame s.args.query
+  unfolding azimuth_of
+  of_query = (found one).before.azimuth-by.ensures ∙ ap₂ azimuth_by (along_east (two one)) (along_north (two one))
 
   aside : Aside s.args.index.frame s.args.query
   aside = let h = subst (AsideIf _ _) (both one).0 one.before.is-aside.ensures in
-      record { seen-from = λ e f. h (along-east (two one) ∙ e) (along-north (two one) ∙ f) }
+      record { seen_from = λ e f. h (along_east (two one) ∙ e) (along_north (two one) ∙ f) }
 
-  node : Node (vertexCount s.args.vertices.now) s.args.sectors.now s.args.table.now s.args.list.now
+  node : Node (vertices_count s.args.vertices.now) s.args.sectors.now s.args.table.now s.args.list.now
       (k one)
   node = s.pre.1.indexed.each (k one) (below one)
 
@@ -147,12 +147,12 @@ tally-near-requires c κs =
     let v = s r in
     let row = r.row_at.result in
     let inside = both_true (leb row.lo (at r)) (leb (at r) row.last) (tests t).0 in
-    let off = (reference-accepted _ v.args.vertices.now v.args.known v.pre.0.0).off-circle in
+    let off = (reference_accepted _ v.args.vertices.now v.args.known v.pre.0.0).off_circle in
     let told = telling v.pre.1.frame off v.pre.1.sectors-of v.args.query (aside r) in (
       (v.pre.0.0, v.pre.0.1, leb-true (row.to - row.from) (near t) (tests t).1),
       (
-        (rw (of-query r) told, rw (of-query r) (azimuth-below v.args.index.frame v.args.query)),
-        row-complete r.row_at.ensures (node r) (leb-true row.lo (at r) inside.0)
+        (rw (of_query r) told, rw (of_query r) (azimuth_below v.args.index.frame v.args.query)),
+        row_complete r.row_at.ensures (node r) (leb-true row.lo (at r) inside.0)
             (leb-true (at r) row.last inside.1),
       ),
     )
@@ -173,23 +173,23 @@ asking c = c.before.before.before.before.before.before.before.before.before.befo
 arc-between-requires : tie.Need-arc-between-requires
 arc-between-requires c κs =
     let s = c.before.before.before.before.before.before.before.before.before.before.before.before.before in
-    ((accept-passed s.requires.0.0).known, s.requires.0.1)
+    ((accept_passed s.requires.0.0).known, s.requires.0.1)
 
 tally-arc-requires : tie.Need-tally-arc-requires
 tally-arc-requires c κs =
     let s = asking c in
-    arc-searchable s.args.grid s.args.known s.args.query _ s.pre.0.0 s.pre.0.1 s.pre.0.2
+    arc_searchable s.args.grid s.args.known s.args.query _ s.pre.0.0 s.pre.0.1 s.pre.0.2
     c.arc-between.ensures
 
 returns-2 : tie.Need-returns-2
-unfolding arcOf
+unfolding arc_of
 returns-2 c =
     let a = c.before in
     let vs = (asking a).args.vertices.now in
-    c.tally-arc.ensures ∙ ap (λ b. tallyFrom vs b.from b.to 0 (vertexCount vs)) a.arc-between.ensures
+    c.tally-arc.ensures ∙ ap (λ b. tally_from vs b.from b.to 0 (vertices_count vs)) a.arc-between.ensures
 
-pub tally-edges-spec : {M : Type 1} → statement M
-tally-edges-spec =
+pub tally_edges_spec : {M : Type 1} → statement M
+tally_edges_spec =
     tie.close
     (tie.spec
     dot-requires

@@ -23,9 +23,9 @@ record Copying (s l m : List ℕ) (from to at e : ℕ) : Type 0 where
   before : (x : ℕ) → x < at → get_or m x 0 ≡ get_or l x 0
   kept : Kept never s m from at e (at + (e - from))
 
-copying-step : (s l m : List ℕ) (from to at e : ℕ) → Copying s l m from to at e → e < to →
+copying_step : (s l m : List ℕ) (from to at e : ℕ) → Copying s l m from to at e → e < to →
     at + (e - from) < length m → Copying s l (set m (at + (e - from)) (get_or s e 0)) from to at (e + 1)
-copying-step s l m from to at e c h r = record {
+copying_step s l m from to at e c h r = record {
   room = length-set m (at + (e - from)) (get_or s e 0) ∙ c.room;
   after = omega (arith, c.after);
   within = omega arith;
@@ -93,7 +93,7 @@ loop-less c = search rules
 loop-again : tie.Need-loop-preserved invariant-loop decreases-loop
 loop-again c =
     let t = c.before in
-    copying-step _ _ _ _ _ _ _ t.before.loop.invariant t.loop-test.true (fits t)
+    copying_step _ _ _ _ _ _ _ t.before.loop.invariant t.loop-test.true (fits t)
 
 same_length : tie.Need-same-length invariant-loop decreases-loop
 same_length c = c.before.loop.invariant.room

@@ -46,8 +46,8 @@ returns-2 c = search rules
 returns-3 : tie.Need-returns-3
 returns-3 c = search rules
 
-pub put-leaf-spec : {M : Type 1} → statement M
-put-leaf-spec =
+pub put_leaf_spec : {M : Type 1} → statement M
+put_leaf_spec =
     tie.close
     (tie.spec
     sub-len

@@ -1,7 +1,7 @@
 -- `put_node` meets its contract: the new node is complete as its list on the stack is, and the others stay.
 use Prim.Native.Nat.{◌-◌}
 use borrow.Author.Rules.{rules}
-use Rattle.cones.proofs.Laws.Pushed.{copied-covers, pushed}
+use Rattle.cones.proofs.Laws.Pushed.{copied_covers, pushed}
 use Rattle.cones.proofs.table.put_node.Statement.{statement}
 use Rattle.cones.proofs.table.put_node.Tie as tie
 
@@ -66,10 +66,10 @@ returns c =
     rw (d.put-number4.ensures, third.put-number3.ensures, second.put-number2.ensures, first.put-number.ensures)
     (pushed v.n v.sectors.now v.table.now v.list.now v.nodes v.top (v.cone.to - v.cone.from)
     s.requires.1 s.requires.2 v.cone.lo v.cone.last _ h.room h.before
-    (copied-covers v.n h s.requires.0.complete.covers))
+    (copied_covers v.n h s.requires.0.complete.covers))
 
-pub put-node-spec : {M : Type 1} → statement M
-put-node-spec =
+pub put_node_spec : {M : Type 1} → statement M
+put_node_spec =
     tie.close
     (tie.spec
     sub-end

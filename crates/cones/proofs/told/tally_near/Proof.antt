@@ -1,7 +1,7 @@
 -- `tally_near` meets its contract: what is gathered is complete for the query.
 use borrow.Author.Rules.{rules}
 use Rattle.cones.proofs.Laws.Covers.{entries}
-use Rattle.cones.proofs.Laws.Close.{near-complete}
+use Rattle.cones.proofs.Laws.Close.{near_complete}
 use Rattle.cones.proofs.told.tally_near.Statement.{statement}
 use Rattle.cones.proofs.told.tally_near.Tie as tie
 
@@ -19,7 +19,7 @@ walk-near-requires c κs =
     let g = c.before.before.before in
     let s = g.before.before.before.before.before in
     let telling = s.requires.1.0 in
-    ((s.requires.0.0, s.requires.0.1), (telling, near-complete telling.0 s.requires.1.1 g.gather.ensures))
+    ((s.requires.0.0, s.requires.0.1), (telling, near_complete telling.0 s.requires.1.1 g.gather.ensures))
 
 same_length : tie.Need-same-length
 same_length c = search rules
@@ -27,5 +27,5 @@ same_length c = search rules
 returns : tie.Need-returns
 returns c = search rules
 
-pub tally-near-spec : {M : Type 1} → statement M
-tally-near-spec = tie.close (tie.spec gather-requires walk-near-requires same_length returns)
+pub tally_near_spec : {M : Type 1} → statement M
+tally_near_spec = tie.close (tie.spec gather-requires walk-near-requires same_length returns)

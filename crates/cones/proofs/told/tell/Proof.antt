@@ -13,26 +13,26 @@ use mir.Val.{to_z, of_z}
 use mir.ValLaws.{to_z-of_z}
 use Rattle.integers.specs.Sign.{positive, negative, sign_of, unit_of}
 use Rattle.sphere.specs.declared.point.Point.{Point}
-use Rattle.sphere.specs.Point.{limitOf, Within}
-use Rattle.sphere.specs.Orientation.{orientationOf}
-use Rattle.sphere.proofs.Laws.Plane.{Made, plane-made, made-within, made-turn}
+use Rattle.sphere.specs.Point.{limit_of, Within}
+use Rattle.sphere.specs.Orientation.{orientation_of}
+use Rattle.sphere.proofs.Laws.Plane.{Made, plane_made, made_within, made_turn}
 use Rattle.answer.proofs.Laws.Chain.{both_true}
-use Rattle.polygon.specs.Vertices.{vertexCount, start_of, end_of}
-use Rattle.polygon.proofs.Laws.Checks.{accept-passed}
-use Rattle.polygon.proofs.Laws.Edges.{ends-within}
+use Rattle.polygon.specs.Vertices.{vertices_count, start_of, end_of}
+use Rattle.polygon.proofs.Laws.Checks.{accept_passed}
+use Rattle.polygon.proofs.Laws.Edges.{ends_within}
 use Rattle.search.specs.declared.walk.Tally.TheVariants.{Crossed}
-use Rattle.search.specs.Walk.{tallyFrom}
-use Rattle.azimuths.specs.Sectors.{Idle, wayBy, Telling}
+use Rattle.search.specs.Walk.{tally_from}
+use Rattle.azimuths.specs.Sectors.{Idle, way_by, Telling}
 use Rattle.cones.specs.Cones.{Complete, Walked, Coming}
-use Rattle.cones.proofs.Laws.Covers.{AtEntry, covers_at, Added, walk-add}
-use Rattle.cones.proofs.Laws.Close.{told-way}
+use Rattle.cones.proofs.Laws.Covers.{AtEntry, covers_at, Added, walk_add}
+use Rattle.cones.proofs.Laws.Close.{told_way}
 use Rattle.cones.proofs.told.tell.Statement.{statement}
 use Rattle.cones.proofs.told.tell.Tie as tie
 
 -- What the contract gives of the reference point X, which the loop does not see.
 record Given (vs : List ℤ) (X P : Point) (sectors : List ℕ) (k : ℕ) (l : List ℕ) (to e c : ℕ) (s : ℤ) : Type 0 where
   telling : Telling vs X P sectors k
-  complete : Complete (Idle vs X P) (vertexCount vs) l 0 to
+  complete : Complete (Idle vs X P) (vertices_count vs) l 0 to
   walked : Walked vs X P l e c s
 
 -- Before entry e, from entry e₀ on.
@@ -100,11 +100,11 @@ module _ (c : tie.After-wide invariant-loop decreases-loop) where
   less : own.loop.e < entry.args.to
   less = c.before.before.loop-test.true
 
-  at : (X : Point) → Complete (Idle vs X P) (vertexCount vs) l 0 entry.args.to →
-      AtEntry (Idle vs X P) l 0 (vertexCount vs) own.loop.e
+  at : (X : Point) → Complete (Idle vs X P) (vertices_count vs) l 0 entry.args.to →
+      AtEntry (Idle vs X P) l 0 (vertices_count vs) own.loop.e
   at X h = covers_at h.covers own.loop.e (omega arith) less
 
-  below : c.wide.result < vertexCount vs
+  below : c.wide.result < vertices_count vs
   below = omega (arith, c.wide.ensures.0, (at entry.args.known entry.pre.1.1.0).below)
 
 vertex-at-requires : tie.Need-vertex-at-requires invariant-loop decreases-loop
@@ -118,11 +118,11 @@ module _ (c : tie.After-end-of invariant-loop decreases-loop) where
   abbrev here : tie.After-wide invariant-loop decreases-loop
   here = c.before.before
 
-  ends : Within (limitOf (entry here).args.grid) c.before.vertex-at.result
-      × Within (limitOf (entry here).args.grid) c.end_of_lem.result
+  ends : Within (limit_of (entry here).args.grid) c.before.vertex-at.result
+      × Within (limit_of (entry here).args.grid) c.end_of_lem.result
   ends =
-      let grid = (accept-passed (entry here).pre.0.0).gridded in
-      ends-within grid (below here) c.before.vertex-at.ensures c.end_of_lem.ensures
+      let grid = (accept_passed (entry here).pre.0.0).gridded in
+      ends_within grid (below here) c.before.vertex-at.ensures c.end_of_lem.ensures
 
 plane-through-requires : tie.Need-plane-through-requires invariant-loop decreases-loop
 plane-through-requires c κs = ends c
@@ -133,10 +133,10 @@ made : (c : tie.After-plane-through invariant-loop decreases-loop) →
     c.plane-through.result
 made c =
     let e = c.before in
-    plane-made (entry (here e)).args.grid _ _ (ends e).0 (ends e).1 c.plane-through.ensures
+    plane_made (entry (here e)).args.grid _ _ (ends e).0 (ends e).1 c.plane-through.ensures
 
 sure-side-requires : tie.Need-sure-side-requires invariant-loop decreases-loop
-sure-side-requires c κs = ((made c).sound, made-within (made c) (entry (here c.before)).pre.0.1)
+sure-side-requires c κs = ((made c).sound, made_within (made c) (entry (here c.before)).pre.0.1)
 
 passage-at-requires : tie.Need-passage-at-requires invariant-loop decreases-loop
 passage-at-requires c κs =
@@ -165,29 +165,29 @@ module _ (c : tie.After-counted invariant-loop decreases-loop) where
       both_true pass.before.sure-side.result.sure inside (not-false _ c.before.before.if1.false)
 
   -- on which side of it the query lies
-  side : sign_of (orientationOf (start_of (vs w) w.wide.result) (end_of (vs w) w.wide.result) (P w))
+  side : sign_of (orientation_of (start_of (vs w) w.wide.result) (end_of (vs w) w.wide.result) (P w))
       ≡ cond pass.before.sure-side.result.left positive negative
   side =
       let plane = pass.before.before in
       let e = plane.before in
-      sym (λ j. sign_of (orientationOf (e.before.vertex-at.ensures j) (e.end_of_lem.ensures j) (P w)))
-      ∙ sym (ap sign_of (made-turn (made plane) (P w))) ∙ pass.before.sure-side.ensures.side sure.0
+      sym (λ j. sign_of (orientation_of (e.before.vertex-at.ensures j) (e.end_of_lem.ensures j) (P w)))
+      ∙ sym (ap sign_of (made_turn (made plane) (P w))) ∙ pass.before.sure-side.ensures.side sure.0
 
   one : (X : Point) → GivenOf (own w) X →
-      tallyFrom (vs w) X (P w) (get_or (l w) (own w).loop.e 0) 1 ≡ Crossed c.counted.result way
+      tally_from (vs w) X (P w) (get_or (l w) (own w).loop.e 0) 1 ≡ Crossed c.counted.result way
   one X g =
       let left = pass.before.sure-side.result.left in
       let inside = sym pass.passage-at.ensures.0 ∙ sure.1 in
-      let same = c.before.way_by.ensures ∙ ap (λ b. unit_of (wayBy b left)) pass.passage-at.ensures.1 in
-      subst (λ j. tallyFrom (vs w) X (P w) j 1 ≡ Crossed c.counted.result way) w.wide.ensures.0
-      (told-way g.telling w.wide.result (below w) inside left side same
+      let same = c.before.way_by.ensures ∙ ap (λ b. unit_of (way_by b left)) pass.passage-at.ensures.1 in
+      subst (λ j. tally_from (vs w) X (P w) j 1 ≡ Crossed c.counted.result way) w.wide.ensures.0
+      (told_way g.telling w.wide.result (below w) inside left side same
       (rw (to_z-of_z w32 way (sfits_of c.before.way_by.type-inv)) at c.counted.ensures))
 
   added : (X : Point) → GivenOf (own w) X →
       Added (vs w) X (P w) (l w) (own w).loop.e ((own w).loop.crossed + c.counted.result)
       (to_z w32 (own w).loop.sum +ℤ to_z w32 (of_z w32 way))
   added X g =
-      walk-add (own w).loop.sum way (accept-passed (entry w).pre.0.0).listed.most
+      walk_add (own w).loop.sum way (accept_passed (entry w).pre.0.0).listed.most
       (sfits_of c.before.way_by.type-inv) (at w X g.complete) ((own w).loop.inv.walked X g) (one X g)
 
 add-crossed : tie.Need-overflow-add-crossed invariant-loop decreases-loop
@@ -223,8 +223,8 @@ returns c = come c.before
 returns-2 : tie.Need-returns-2 invariant-loop decreases-loop
 returns-2 c = come (own c.before.before.before.before.before.before.before.before)
 
-pub tell-spec : {M : Type 1} → statement M
-tell-spec =
+pub tell_spec : {M : Type 1} → statement M
+tell_spec =
     tie.close
     (tie.spec
     invariant-loop

@@ -11,14 +11,14 @@ use mir.Syntax.{w32}
 use mir.Val.{SFits, to_z, of_z}
 use mir.ValLaws.{to_z-of_z}
 use Rattle.sphere.specs.declared.point.Point.{Point}
-use Rattle.polygon.specs.Vertices.{vertexCount}
-use Rattle.polygon.proofs.Laws.Checks.{accept-passed}
+use Rattle.polygon.specs.Vertices.{vertices_count}
+use Rattle.polygon.proofs.Laws.Checks.{accept_passed}
 use Rattle.search.specs.declared.walk.Tally.TheVariants.{Held, Crossed}
-use Rattle.search.specs.Walk.{tallyFrom, NoneBefore}
-use Rattle.search.proofs.Laws.Tally.{test-held, test-way, none-start, none_before}
+use Rattle.search.specs.Walk.{tally_from, NoneBefore}
+use Rattle.search.proofs.Laws.Tally.{test_held, test_way, none_start, none_before}
 use Rattle.azimuths.specs.Sectors.{Idle}
 use Rattle.cones.specs.Cones.{Covers, Walked, Coming}
-use Rattle.cones.proofs.Laws.Covers.{AtEntry, covers_at, tallied-of, walk_start, walk-held, Added, walk-add}
+use Rattle.cones.proofs.Laws.Covers.{AtEntry, covers_at, tallied_of, walk_start, walk_held, Added, walk_add}
 use Rattle.cones.proofs.told.walk_near.Statement.{statement}
 use Rattle.cones.proofs.told.walk_near.Tie as tie
 
@@ -74,7 +74,7 @@ module _ (c : tie.After-wide invariant-loop decreases-loop) where
   less : e < entry.args.to
   less = c.before.before.if1.false
 
-  at : AtEntry (Idle vs X P) l 0 (vertexCount vs) e
+  at : AtEntry (Idle vs X P) l 0 (vertices_count vs) e
   at = covers_at entry.pre.1.1.covers e (omega arith) less
 
   walked : Walked vs X P l e told.tell.result.crossed (to_z w32 (of_z w32 told.tell.result.sum))
@@ -85,7 +85,7 @@ module _ (c : tie.After-wide invariant-loop decreases-loop) where
 
 test-unsure-requires : tie.Need-test-unsure-requires invariant-loop decreases-loop
 test-unsure-requires c κs =
-    let none = none_before _ _ _ (omega arith) (none-start _ _) (tallied-of ((walked c).tally _ (at c).before)) in (
+    let none = none_before _ _ _ (omega arith) (none_start _ _) (tallied_of ((walked c).tally _ (at c).before)) in (
       (entry c).requires.0,
       (
         (
@@ -119,17 +119,17 @@ module _ (c : tie.After-counted invariant-loop decreases-loop) where
   fit : SFits w32 way
   fit = record { sfits = c.before.known-told.given.0.1 }
 
-  one : tallyFrom (vs w) (X w) (P w) (get_or (l w) (e w) 0) 1 ≡ Crossed c.counted.result way
+  one : tally_from (vs w) (X w) (P w) (get_or (l w) (e w) 0) 1 ≡ Crossed c.counted.result way
   one =
-      subst (λ j. tallyFrom (vs w) (X w) (P w) j 1 ≡ Crossed c.counted.result way) w.wide.ensures.0
-      (test-way (vs w) (X w) (P w) w.wide.result
+      subst (λ j. tally_from (vs w) (X w) (P w) j 1 ≡ Crossed c.counted.result way) w.wide.ensures.0
+      (test_way (vs w) (X w) (P w) w.wide.result
       (sym tested.test-unsure.ensures ∙ c.before.before.way.given.1)
       (rw (to_z-of_z w32 way fit) at c.counted.ensures))
 
   added : Added (vs w) (X w) (P w) (l w) (e w) ((told w).tell.result.crossed + c.counted.result)
       (to_z w32 (of_z w32 (told w).tell.result.sum) +ℤ to_z w32 (of_z w32 way))
   added =
-      walk-add (of_z w32 (told w).tell.result.sum) way (accept-passed (entry w).pre.0.0).listed.most fit (at w)
+      walk_add (of_z w32 (told w).tell.result.sum) way (accept_passed (entry w).pre.0.0).listed.most fit (at w)
       (walked w) one
 
 add-crossed : tie.Need-overflow-add-crossed invariant-loop decreases-loop
@@ -157,7 +157,7 @@ returns c =
     let s = t.before.before.before.before in
     let a = s.args in
     let v = a.vertices.now in
-    let n = vertexCount v in
+    let n = vertices_count v in
     let come = t.tell.ensures.0 in
     let all = s.requires.1.1.covers in
     let sum = t.tell.result.sum in
@@ -169,13 +169,13 @@ returns c =
     (subst (λ b. Covers (Idle v a.known a.query) a.list.now 0 n b) last all) in
     rw (r.1, to_z-of_z w32 sum fit) (sym whole))
     (λ r.
-    let held = subst (λ j. tallyFrom v a.known a.query j 1 ≡ Held r.2.result) r.2.ensures.0
-    (test-held v a.known a.query r.2.result (sym r.3.ensures ∙ r.5.given.1)) in
-    rw r.6 (sym (walk-held r.0.left all come.walked held)))
+    let held = subst (λ j. tally_from v a.known a.query j 1 ≡ Held r.2.result) r.2.ensures.0
+    (test_held v a.known a.query r.2.result (sym r.3.ensures ∙ r.5.given.1)) in
+    rw r.6 (sym (walk_held r.0.left all come.walked held)))
     c.before.if1.branch
 
-pub walk-near-spec : {M : Type 1} → statement M
-walk-near-spec =
+pub walk_near_spec : {M : Type 1} → statement M
+walk_near_spec =
     tie.close
     (tie.spec
     invariant-loop

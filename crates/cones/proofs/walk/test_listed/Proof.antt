@@ -6,15 +6,15 @@ use lib.IntN.{ℤ}
 use mir.Syntax.{w32, w64}
 use mir.Val.{to_z, of_z}
 use Rattle.integers.specs.Sign.{sign_of}
-use Rattle.integers.proofs.Compare.{result-same, result-sign}
-use Rattle.sphere.specs.Point.{limitOf, Within}
-use Rattle.sphere.specs.Orientation.{orientationOf, dotOf}
-use Rattle.sphere.proofs.Laws.Plane.{Made, plane-made, made-within, made-turn}
+use Rattle.integers.proofs.Compare.{result_same, result_sign}
+use Rattle.sphere.specs.Point.{limit_of, Within}
+use Rattle.sphere.specs.Orientation.{orientation_of, dot_of}
+use Rattle.sphere.proofs.Laws.Plane.{Made, plane_made, made_within, made_turn}
 use Rattle.polygon.specs.Vertices.{start_of, end_of}
-use Rattle.polygon.proofs.Laws.Edges.{start-within, end-within}
+use Rattle.polygon.proofs.Laws.Edges.{start_within, end_within}
 use Rattle.search.specs.declared.walk.EdgeTest.TheVariants.{Way}
-use Rattle.search.proofs.Laws.Arc.{arc-side, reference}
-use Rattle.search.proofs.Laws.EdgeTest.{one-sided-test, way_by}
+use Rattle.search.proofs.Laws.Arc.{arc_side, reference}
+use Rattle.search.proofs.Laws.EdgeTest.{one_sided_test, way_by_lem}
 use Rattle.cones.proofs.walk.test_listed.Statement.{statement}
 use Rattle.cones.proofs.walk.test_listed.Tie as tie
 
@@ -29,13 +29,13 @@ module _ (c : tie.After-end-of) where
   abbrev entry : tie.Start
   entry = c.before.before.before.before
 
-  A : Within (limitOf entry.args.arc.plane.grid) c.before.vertex-at.result
+  A : Within (limit_of entry.args.arc.plane.grid) c.before.vertex-at.result
   A =
-      start-within (reference entry.pre.0.0).accepted.gridded entry.pre.0.1
+      start_within (reference entry.pre.0.0).accepted.gridded entry.pre.0.1
       (record { start = λ h. c.before.vertex-at.ensures })
 
-  B : Within (limitOf entry.args.arc.plane.grid) c.end_of_lem.result
-  B = end-within (reference entry.pre.0.0).accepted.gridded entry.pre.0.1 c.end_of_lem.ensures
+  B : Within (limit_of entry.args.arc.plane.grid) c.end_of_lem.result
+  B = end_within (reference entry.pre.0.0).accepted.gridded entry.pre.0.1 c.end_of_lem.ensures
 
 side-of-requires : tie.Need-side-of-requires
 side-of-requires c κs = ((entry c).requires.0.0.sound.sound, A c)
@@ -54,19 +54,19 @@ module _ (c : tie.After-side-of2) where
   abbrev s : tie.Start
   s = entry ends
 
-  side-a : sign_of (to_z w64 (of_z w64 c.before.side-of.result))
-      ≡ sign_of (orientationOf s.args.arc.from s.args.arc.to (start_of s.args.vertices.now s.args.i))
-  side-a =
+  side_a : sign_of (to_z w64 (of_z w64 c.before.side-of.result))
+      ≡ sign_of (orientation_of s.args.arc.from s.args.arc.to (start_of s.args.vertices.now s.args.i))
+  side_a =
       let d = c.before.side-of in
-      result-sign w64 d.result d.type-inv (d.ensures ∙ ap sign_of (arc-side s.pre.0.0.sound _)
-      ∙ ap (λ p. sign_of (orientationOf s.args.arc.from s.args.arc.to p)) ends.before.vertex-at.ensures)
+      result_sign w64 d.result d.type-inv (d.ensures ∙ ap sign_of (arc_side s.pre.0.0.sound _)
+      ∙ ap (λ p. sign_of (orientation_of s.args.arc.from s.args.arc.to p)) ends.before.vertex-at.ensures)
 
-  side-b : sign_of (to_z w64 (of_z w64 c.side-of2.result))
-      ≡ sign_of (orientationOf s.args.arc.from s.args.arc.to (end_of s.args.vertices.now s.args.i))
-  side-b =
+  side_b : sign_of (to_z w64 (of_z w64 c.side-of2.result))
+      ≡ sign_of (orientation_of s.args.arc.from s.args.arc.to (end_of s.args.vertices.now s.args.i))
+  side_b =
       let d = c.side-of2 in
-      result-sign w64 d.result d.type-inv (d.ensures ∙ ap sign_of (arc-side s.pre.0.0.sound _)
-      ∙ ap (λ p. sign_of (orientationOf s.args.arc.from s.args.arc.to p)) ends.end_of_lem.ensures)
+      result_sign w64 d.result d.type-inv (d.ensures ∙ ap sign_of (arc_side s.pre.0.0.sound _)
+      ∙ ap (λ p. sign_of (orientation_of s.args.arc.from s.args.arc.to p)) ends.end_of_lem.ensures)
 
 returns : tie.Need-returns
 returns c =
@@ -74,8 +74,8 @@ returns c =
     let t = b.before in
     let v = (s t).args in
     let e = sym b.is-beside.ensures ∙ c.if1.true in
-    sym (one-sided-test v.vertices.now v.arc.from v.arc.to v.i (reference (s t).requires.0.0).off-circle
-    (s t).requires.0.1 (rw (side-a t, side-b t) at e))
+    sym (one_sided_test v.vertices.now v.arc.from v.arc.to v.i (reference (s t).requires.0.0).off_circle
+    (s t).requires.0.1 (rw (side_a t, side_b t) at e))
 
 plane-through-requires : tie.Need-plane-through-requires
 plane-through-requires c κs = let e = ends c.before.before in (A e, B e)
@@ -88,11 +88,11 @@ module _ (c : tie.After-plane-through) where
   made : Made (entry (ends sides)).args.arc.plane.grid (ends sides).before.vertex-at.result
       (ends sides).end_of_lem.result c.plane-through.result
   made =
-      plane-made (entry (ends sides)).args.arc.plane.grid _ _ (A (ends sides)) (B (ends sides))
+      plane_made (entry (ends sides)).args.arc.plane.grid _ _ (A (ends sides)) (B (ends sides))
       c.plane-through.ensures
 
 side-of-requires-3 : tie.Need-side-of-requires-3
-side-of-requires-3 c κs = ((made c).sound, made-within (made c) (s (sides c)).pre.0.0.sound.query)
+side-of-requires-3 c κs = ((made c).sound, made_within (made c) (s (sides c)).pre.0.0.sound.query)
 
 -- On which side of it the query lies.
 module _ (c : tie.After-side-of3) where
@@ -102,12 +102,12 @@ module _ (c : tie.After-side-of3) where
   abbrev side : ℤ
   side = to_z w64 (of_z w64 c.side-of3.result)
 
-  side-of-query : sign_of side
-      ≡ sign_of (orientationOf corner.before.vertex-at.result corner.end_of_lem.result
+  side_of_query : sign_of side
+      ≡ sign_of (orientation_of corner.before.vertex-at.result corner.end_of_lem.result
       (entry corner).args.arc.to)
-  side-of-query =
-      result-sign w64 c.side-of3.result c.side-of3.type-inv
-      (c.side-of3.ensures ∙ ap sign_of (made-turn (made c.before) (entry corner).args.arc.to))
+  side_of_query =
+      result_sign w64 c.side-of3.result c.side-of3.type-inv
+      (c.side-of3.ensures ∙ ap sign_of (made_turn (made c.before) (entry corner).args.arc.to))
 
 is-on-border-requires : tie.Need-is-on-border-requires
 is-on-border-requires c κs =
@@ -116,7 +116,7 @@ is-on-border-requires c κs =
       a.pre.0,
       (
         a.pre.1,
-        side-of-query c ∙ (λ j. sign_of (orientationOf (e.before.vertex-at.ensures j) (e.end_of_lem.ensures j)
+        side_of_query c ∙ (λ j. sign_of (orientation_of (e.before.vertex-at.ensures j) (e.end_of_lem.ensures j)
             a.args.arc.to)),
       ),
     )
@@ -127,7 +127,7 @@ returns-2 c = rw (sym c.before.is-on-border.ensures ∙ c.if2.true)
 crossing-from-requires : tie.Need-crossing-from-requires
 crossing-from-requires c κs =
     let p = c.before.before.before in
-    ((made p).sound, made-within (made p) (s (sides p)).pre.0.0.sound.known)
+    ((made p).sound, made_within (made p) (s (sides p)).pre.0.0.sound.known)
 
 returns-3 : tie.Need-returns-3
 returns-3 c =
@@ -140,14 +140,14 @@ returns-3 c =
     let r = c.crossing-from in
     let s1 = to_z w64 (of_z w64 t.before.side-of.result) in
     let s2 = to_z w64 (of_z w64 t.side-of2.result) in
-    let s3 = dotOf p.plane-through.result.normal v.arc.from in
-    let way = way_by v.arc.from v.arc.to s1 s2 s3 (side q) (result-same w32 r.result r.type-inv r.ensures)
-    (ap sign_of (made-turn (made p) _)) (side-a t) (side-b t) (side-of-query q)
+    let s3 = dot_of p.plane-through.result.normal v.arc.from in
+    let way = way_by_lem v.arc.from v.arc.to s1 s2 s3 (side q) (result_same w32 r.result r.type-inv r.ensures)
+    (ap sign_of (made_turn (made p) _)) (side_a t) (side_b t) (side_of_query q)
     e.before.vertex-at.ensures e.end_of_lem.ensures in
     rw (sym border.is-on-border.ensures ∙ c.before.if2.false) (ap Way way)
 
-pub test-listed-spec : {M : Type 1} → statement M
-test-listed-spec =
+pub test_listed_spec : {M : Type 1} → statement M
+test_listed_spec =
     tie.close
     (tie.spec
     vertex-at-requires

@@ -7,20 +7,20 @@ use native.Mathlib.Omega.{arith}
 use borrow.Author.Rules.{rules}
 use lib.IntN.{ℤ}
 use Rattle.sphere.specs.declared.point.Point.{Point}
-use Rattle.answer.specs.Search.{countFrom}
-use Rattle.answer.proofs.Laws.Blocks.{count-bound}
-use Rattle.polygon.specs.Border.{isCoincident}
+use Rattle.answer.specs.Search.{count_from}
+use Rattle.answer.proofs.Laws.Blocks.{count_bound}
+use Rattle.polygon.specs.Border.{is_coincident}
 use Rattle.corridors.specs.Marked.{Marked}
-use Rattle.corridors.proofs.Laws.Off.{joined-more, joined-rest}
-use Rattle.corridors.proofs.Laws.Marked.{marked-none, marked-one, marked_append}
+use Rattle.corridors.proofs.Laws.Off.{joined_more, joined_rest}
+use Rattle.corridors.proofs.Laws.Marked.{marked_none, marked_one, marked_append}
 use Rattle.corridors.proofs.border.mark_edges.Statement.{statement}
 use Rattle.corridors.proofs.border.mark_edges.Tie as tie
 
 record Counted (vs : List ℤ) (C D : Point) (from to : ℕ) (marks now : List ℕ) (count j : ℕ) : Type 0 where
   after : from ≤ j
   before : j ≤ to
-  counted : countFrom (isCoincident vs C D) from (j - from) ≡ count
-  marked : Marked (isCoincident vs C D) from j marks now
+  counted : count_from (is_coincident vs C D) from (j - from) ≡ count
+  marked : Marked (is_coincident vs C D) from j marks now
 
 abbrev invariant-loop : tie.invariant-loop
 invariant-loop vertices c d from to marks₀ count₀ j₀ marks count j = Counted vertices c d from to marks₀ marks count j
@@ -29,7 +29,7 @@ abbrev decreases-loop : tie.decreases-loop
 decreases-loop vertices c d from to marks₀ count₀ j₀ marks count j = to - j
 
 loop-holds : tie.Need-loop-init invariant-loop decreases-loop
-unfolding countFrom
+unfolding count_from
 loop-holds c =
     let s = c.before in
     let none : s.args.from - s.args.from ≡ 0 = omega arith in
@@ -37,7 +37,7 @@ loop-holds c =
       after = omega arith;
       before = omega (arith, s.requires.1.0);
       counted = rw none;
-      marked = marked-none (λ j h l. absurd (omega (arith, h, l)));
+      marked = marked_none (λ j h l. absurd (omega (arith, h, l)));
     }
 
 -- The next edge, and the one that is tested.
@@ -56,7 +56,7 @@ module _ (c : tie.After-next-coincident invariant-loop decreases-loop) where
   s = entry c.before
 
   abbrev test : ℕ → Bool
-  test = isCoincident s.args.vertices.now s.args.c s.args.d
+  test = is_coincident s.args.vertices.now s.args.c s.args.d
 
   abbrev edge : ℕ
   edge = c.next-coincident.result
@@ -68,9 +68,9 @@ returns c =
     let e = n.next-coincident.ensures in
     let to = (s n).args.to in
     let last : edge n ≡ to = omega (arith, c.if1.true, e.before) in (
-      sym (joined-rest e inv.after inv.counted c.if1.true),
+      sym (joined_rest e inv.after inv.counted c.if1.true),
       subst (λ k. Marked (test n) (s n).args.from k (s n).args.marks.now n.before.before.loop.marks) last
-          (marked_append inv.after e.passed.after inv.marked (marked-none e.passed.each)),
+          (marked_append inv.after e.passed.after inv.marked (marked_none e.passed.each)),
     )
 
 same_length : tie.Need-same-length invariant-loop decreases-loop
@@ -89,11 +89,11 @@ module _ (c : tie.After-slice-known2 invariant-loop decreases-loop) where
   less : edge next < (s next).args.to
   less = put.before.before.if1.left
 
-  counted : countFrom (test next) (s next).args.from (edge next + 1 - (s next).args.from)
+  counted : count_from (test next) (s next).args.from (edge next + 1 - (s next).args.from)
       ≡ next.before.before.loop.count + 1
   counted =
       let inv = next.before.before.loop.inv in
-      joined-more next.next-coincident.ensures inv.after inv.counted less
+      joined_more next.next-coincident.ensures inv.after inv.counted less
 
   few : edge next + 1 ≤ 4096
   few = omega (arith, less, (s next).pre.1.1, (s next).pre.0.0.most)
@@ -101,7 +101,7 @@ module _ (c : tie.After-slice-known2 invariant-loop decreases-loop) where
 add-count : tie.Need-overflow-add-count invariant-loop decreases-loop
 add-count c =
     let from = (s (next c)).args.from in
-    omega (arith, counted c, count-bound (test (next c)) from (edge (next c) + 1 - from), few c)
+    omega (arith, counted c, count_bound (test (next c)) from (edge (next c) + 1 - from), few c)
 
 add-j : tie.Need-overflow-add-j invariant-loop decreases-loop
 add-j c = omega (arith, few c)
@@ -121,8 +121,8 @@ loop-again c =
       before = omega (arith, less c);
       counted = counted c;
       marked = marked_append (omega (arith, inv.after, e.passed.after)) (omega arith)
-          (marked_append inv.after e.passed.after inv.marked (marked-none e.passed.each))
-          (marked-one (e.joined (less c)) (put c).put-mark.ensures);
+          (marked_append inv.after e.passed.after inv.marked (marked_none e.passed.each))
+          (marked_one (e.joined (less c)) (put c).put-mark.ensures);
     }
 
 same-length-2 : tie.Need-same-length-2 invariant-loop decreases-loop
@@ -135,12 +135,12 @@ returns-2 c =
     let inv = l.loop.invariant in
     let all : l.loop.j ≡ s.to = omega (arith, c.loop-test.false, inv.before) in (
       sym (rw all at inv.counted),
-      subst (λ k. Marked (isCoincident s.vertices.now s.c s.d) s.from k s.marks.now l.loop.marks)
+      subst (λ k. Marked (is_coincident s.vertices.now s.c s.d) s.from k s.marks.now l.loop.marks)
           all inv.marked,
     )
 
-pub mark-edges-spec : {M : Type 1} → statement M
-mark-edges-spec =
+pub mark_edges_spec : {M : Type 1} → statement M
+mark_edges_spec =
     tie.close
     (tie.spec
     invariant-loop

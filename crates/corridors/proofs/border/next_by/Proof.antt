@@ -2,7 +2,7 @@
 use mathlib.Core.Path.{sym, ◌∙◌}
 use borrow.Author.Rules.{rules}
 use Rattle.polygon.specs.Vertices.{start_of, end_of}
-use Rattle.polygon.proofs.Laws.Joined.{joins-front}
+use Rattle.polygon.proofs.Laws.Joined.{joins_front}
 use Rattle.corridors.proofs.border.next_by.Statement.{statement}
 use Rattle.corridors.proofs.border.next_by.Tie as tie
 
@@ -24,10 +24,10 @@ returns-2 c =
     let vs = s.vertices.now in (
       record {
         after = e.0.after;
-        each = λ j h l. sym (joins-front s.c s.d (start_of vs j) (end_of vs j)) ∙ e.0.each s.c j h l;
+        each = λ j h l. sym (joins_front s.c s.d (start_of vs j) (end_of vs j)) ∙ e.0.each s.c j h l;
       },
       e.1,
     )
 
-pub next-by-spec : {M : Type 1} → statement M
-next-by-spec = tie.close (tie.spec next-edge-requires returns next-edge-requires-2 returns-2)
+pub next_by_spec : {M : Type 1} → statement M
+next_by_spec = tie.close (tie.spec next-edge-requires returns next-edge-requires-2 returns-2)

@@ -2,7 +2,7 @@
 use Prim.Native.Nat.{◌-◌}
 use native.Mathlib.Omega.{arith}
 use borrow.Author.Rules.{rules}
-use Rattle.corridors.proofs.Laws.Off.{off-elsewhere, elsewhere-none}
+use Rattle.corridors.proofs.Laws.Off.{off_elsewhere, elsewhere_none}
 use Rattle.corridors.proofs.border.next_edge.Statement.{statement}
 use Rattle.corridors.proofs.border.next_edge.Tie as tie
 
@@ -17,7 +17,7 @@ returns c =
     let n = c.before in
     let t = n.next-toward.ensures in
     let m = c.if1.true in (
-      off-elsewhere t.0 (n.next-toward.result - 1) (omega (arith, m)) (omega (arith, m))
+      off_elsewhere t.0 (n.next-toward.result - 1) (omega (arith, m)) (omega (arith, m))
           (omega (arith, t.1, n.before.requires.3)),
       omega (arith, m, t.1),
     )
@@ -26,7 +26,7 @@ returns-2 : tie.Need-returns-2
 returns-2 c =
     let n = c.before in
     let t = n.next-toward.ensures in
-    (elsewhere-none t.0.after c.if1.false, omega (arith, c.if1.false, n.before.requires.2))
+    (elsewhere_none t.0.after c.if1.false, omega (arith, c.if1.false, n.before.requires.2))
 
-pub next-edge-spec : {M : Type 1} → statement M
-next-edge-spec = tie.close (tie.spec next-toward-requires sub-result returns returns-2)
+pub next_edge_spec : {M : Type 1} → statement M
+next_edge_spec = tie.close (tie.spec next-toward-requires sub-result returns returns-2)

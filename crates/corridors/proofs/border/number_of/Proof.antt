@@ -17,7 +17,7 @@ returns-2 c =
 returns-3 : tie.Need-returns-3
 returns-3 c =
     rw (ne_eqb _ 0 c.before.before.if1.false, ne_eqb _ 1 c.before.if2.false)
-    (to_z-of_z w64 _ (words_of c.before.before.before.args.n c.struct-told3.given).at-z)
+    (to_z-of_z w64 _ (words_of c.before.before.before.args.n c.struct-told3.given).at_z)
 
-pub number-of-spec : {M : Type 1} → statement M
-number-of-spec = tie.close (tie.spec returns returns-2 returns-3)
+pub number_of_spec : {M : Type 1} → statement M
+number_of_spec = tie.close (tie.spec returns returns-2 returns-3)

@@ -4,11 +4,11 @@ use mathlib.Core.Bool.{true, false}
 use native.Mathlib.Omega.{arith}
 use borrow.Author.Tests.{not-false}
 use Prim.Native.Nat.{ℕ, ◌+◌, ◌-◌, ◌≤◌, ◌<◌}
-use Rattle.sphere.specs.Direction.{isSameDirection}
+use Rattle.sphere.specs.Direction.{is_same_direction}
 use Rattle.answer.proofs.Laws.Chain.{both_true}
-use Rattle.polygon.specs.Vertices.{vertexCount, vertexAt}
-use Rattle.corridors.specs.Marked.{isOff, OffBetween}
-use Rattle.corridors.proofs.Laws.Off.{off-not-same, off-start, off-step}
+use Rattle.polygon.specs.Vertices.{vertices_count, vertex_at}
+use Rattle.corridors.specs.Marked.{is_off, OffBetween}
+use Rattle.corridors.proofs.Laws.Off.{off_not_same, off_start, off_step}
 use Rattle.corridors.proofs.border.past_off.Statement.{statement}
 use Rattle.corridors.proofs.border.past_off.Tie as tie
 
@@ -19,7 +19,7 @@ abbrev decreases-loop : tie.decreases-loop
 decreases-loop vertices axis c i to at₀ at = to - at
 
 loop-holds : tie.Need-loop-init invariant-loop decreases-loop
-loop-holds c = (off-start, c.requires.2)
+loop-holds c = (off_start, c.requires.2)
 
 sub-loop : tie.Need-overflow-sub-loop invariant-loop decreases-loop
 sub-loop c = c.loop.invariant.1
@@ -35,7 +35,7 @@ module _ (c : tie.In-loop invariant-loop decreases-loop) where
   more : at + 2 ≤ start.args.to
   more = omega (arith, c.loop-test.true)
 
-  room : at + 1 < vertexCount start.args.vertices.now
+  room : at + 1 < vertices_count start.args.vertices.now
   room = omega (arith, more, start.pre.3)
 
 vertex-at-requires : tie.Need-vertex-at-requires invariant-loop decreases-loop
@@ -77,15 +77,15 @@ module _ (c : tie.Else1 invariant-loop decreases-loop) where
   off : (first.is-off.result ≡ true) × (tests.is-off2.result ≡ true)
   off = both_true first.is-off.result tests.is-off2.result (not-false _ c.if1.false)
 
-  other : (j : ℕ) → isOff s.args.axis s.args.c (vertexAt s.args.vertices.now j) ≡ true →
-      isSameDirection s.args.c (vertexAt s.args.vertices.now j) ≡ false
-  other j e = off-not-same s.args.axis s.args.c (vertexAt s.args.vertices.now j) e
+  other : (j : ℕ) → is_off s.args.axis s.args.c (vertex_at s.args.vertices.now j) ≡ true →
+      is_same_direction s.args.c (vertex_at s.args.vertices.now j) ≡ false
+  other j e = off_not_same s.args.axis s.args.c (vertex_at s.args.vertices.now j) e
 
   passed : OffBetween s.args.vertices.now s.args.c s.args.i (at turn + 1 + 1)
   passed =
-      let is = isOff s.args.axis s.args.c in
-      off-step
-      (off-step turn.before.loop.inv.0
+      let is = is_off s.args.axis s.args.c in
+      off_step
+      (off_step turn.before.loop.inv.0
       (other (at turn) (ap is (sym first.before.vertex-at.ensures) ∙ sym first.is-off.ensures ∙ off.0)))
       (other (at turn + 1)
       (ap is (sym tests.before.vertex-at2.ensures) ∙ sym tests.is-off2.ensures ∙ off.1))
@@ -108,8 +108,8 @@ loop-again c = (
 returns-2 : tie.Need-returns-2 invariant-loop decreases-loop
 returns-2 c = c.before.loop.invariant
 
-pub past-off-spec : {M : Type 1} → statement M
-past-off-spec =
+pub past_off_spec : {M : Type 1} → statement M
+past_off_spec =
     tie.close
     (tie.spec
     invariant-loop

@@ -26,5 +26,5 @@ returns c =
 returns-2 : tie.Need-returns-2
 returns-2 c = record { room = refl; own = λ h. absurd (omega (arith, h, c.if1.false)); other = λ j h. refl }
 
-pub put-mark-spec : {M : Type 1} → statement M
-put-mark-spec = tie.close (tie.spec slice-write-marks same_length returns returns-2)
+pub put_mark_spec : {M : Type 1} → statement M
+put_mark_spec = tie.close (tie.spec slice-write-marks same_length returns returns-2)

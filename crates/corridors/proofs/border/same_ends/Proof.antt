@@ -16,5 +16,5 @@ returns c = rw (sym c.before.before.same-direction.ensures ∙ c.before.if1.true
 returns-2 : tie.Need-returns-2
 returns-2 c = rw (sym c.before.same-direction.ensures ∙ c.if1.false)
 
-pub same-ends-spec : {M : Type 1} → statement M
-same-ends-spec = tie.close (tie.spec same-direction-requires same-direction-requires-2 returns returns-2)
+pub same_ends_spec : {M : Type 1} → statement M
+same_ends_spec = tie.close (tie.spec same-direction-requires same-direction-requires-2 returns returns-2)

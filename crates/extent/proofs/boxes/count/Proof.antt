@@ -2,9 +2,9 @@
 use mathlib.Core.Path.{◌≡◌, sym, ◌∙◌}
 use borrow.Author.Rules.{rules}
 use Rattle.answer.specs.declared.Check.TheVariants.{Passed}
-use Rattle.sheet.specs.Sheet.{sheetCheck}
-use Rattle.extent.specs.Boxes.{boundedOf, boxCheck}
-use Rattle.extent.proofs.Reach.{box-short, box-long, told-bounded}
+use Rattle.sheet.specs.Sheet.{sheet_check}
+use Rattle.extent.specs.Boxes.{bounded_of, box_check}
+use Rattle.extent.proofs.Reach.{box_short, box_long, told_bounded}
 use Rattle.extent.proofs.boxes.count.Statement.{statement}
 use Rattle.extent.proofs.boxes.count.Tie as tie
 
@@ -12,18 +12,18 @@ module _ (t : tie.After-enum-told) where
   abbrev start : tie.Start
   start = t.before.before.before.before.before
 
-  checked : sheetCheck start.args.sheet.now ≡ Passed
+  checked : sheet_check start.args.sheet.now ≡ Passed
   checked = sym t.before.before.measure.ensures.checked ∙ t.enum_told.given.1
 
-  passed : boxCheck start.args.sheet.now start.args.room ≡ Passed
-  passed = box-long start.args.sheet.now start.args.room t.before.before.before.if1.left ∙ checked
+  passed : box_check start.args.sheet.now start.args.room ≡ Passed
+  passed = box_long start.args.sheet.now start.args.room t.before.before.before.if1.left ∙ checked
 
-  own : t.before.before.measure.result.bounded ≡ boundedOf start.args.sheet.now
-  own = told-bounded start.args.sheet.now t.before.before.measure.result checked
+  own : t.before.before.measure.result.bounded ≡ bounded_of start.args.sheet.now
+  own = told_bounded start.args.sheet.now t.before.before.measure.result checked
       t.before.before.measure.ensures
 
 returns : tie.Need-returns
-returns c = rw (box-short c.before.before.args.sheet.now c.before.before.args.room c.if1.true)
+returns c = rw (box_short c.before.before.args.sheet.now c.before.before.args.room c.if1.true)
 
 measure-requires : tie.Need-measure-requires
 measure-requires c κs = search rules
@@ -37,7 +37,7 @@ enum-told-2 c = search rules
 returns-2 : tie.Need-returns-2
 returns-2 c =
     let m = c.before.before in
-    rw (box-long m.before.before.before.args.sheet.now _ m.before.if1.false
+    rw (box_long m.before.before.before.args.sheet.now _ m.before.if1.false
     ∙ sym m.measure.ensures.checked ∙ c.enum-told2.given.1)
 
 returns-3 : tie.Need-returns-3

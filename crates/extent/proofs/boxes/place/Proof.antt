@@ -19,5 +19,5 @@ returns c = rw (sym c.before.before.box-check.ensures ∙ c.enum_told.given.1)
 returns-2 : tie.Need-returns-2
 returns-2 c = rw (sym c.before.before.before.box-check.ensures ∙ c.before.place.given.1)
 
-pub place-spec : {M : Type 1} → statement M
-place-spec = tie.close (tie.spec box-check-requires enum_told enum-known-place returns returns-2)
+pub place_spec : {M : Type 1} → statement M
+place_spec = tie.close (tie.spec box-check-requires enum_told enum-known-place returns returns-2)

@@ -23,5 +23,5 @@ returns-2 c = record {
   whole = λ e. c.whole.ensures;
 }
 
-pub box-for-spec : {M : Type 1} → statement M
-box-for-spec = tie.close (tie.spec sides-of-requires returns whole-requires returns-2)
+pub box_for_spec : {M : Type 1} → statement M
+box_for_spec = tie.close (tie.spec sides-of-requires returns whole-requires returns-2)

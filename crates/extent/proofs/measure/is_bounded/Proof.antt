@@ -16,5 +16,5 @@ returns c = rw (sym c.before.before.is-fronted.ensures ∙ c.before.if1.true) c.
 returns-2 : tie.Need-returns-2
 returns-2 c = rw (sym c.before.is-fronted.ensures ∙ c.if1.false)
 
-pub is-bounded-spec : {M : Type 1} → statement M
-is-bounded-spec = tie.close (tie.spec is-fronted-requires is-outside-requires returns returns-2)
+pub is_bounded_spec : {M : Type 1} → statement M
+is_bounded_spec = tie.close (tie.spec is-fronted-requires is-outside-requires returns returns-2)

@@ -3,15 +3,15 @@ use mathlib.Core.Path.{◌≡◌, sym, ◌∙◌, subst}
 use native.Mathlib.Omega.{arith}
 use borrow.Author.Rules.{rules}
 use lib.Seq.{length-take-le}
-use Rattle.sphere.specs.Point.{limitOf}
+use Rattle.sphere.specs.Point.{limit_of}
 use Rattle.answer.specs.declared.Check.TheVariants.{Passed}
-use Rattle.polygon.specs.Pair.{optionalCheck}
-use Rattle.fields.specs.Fields.{gridOf}
-use Rattle.sheet.specs.Sheet.{known_of, verticesOf, second_of, sheetCheck}
-use Rattle.sheet.proofs.Laws.Reads.{sheet-plain, sheet-fields, sheet-optional, opened-check, opened-passed}
-use Rattle.zone.proofs.Laws.Opened.{Polygon, polygon, opened-boxed}
+use Rattle.polygon.specs.Pair.{optional_check}
+use Rattle.fields.specs.Fields.{grid_of}
+use Rattle.sheet.specs.Sheet.{known_of, vertices_of, second_of, sheet_check}
+use Rattle.sheet.proofs.Laws.Reads.{sheet_plain, sheet_fields_lem, sheet_optional, opened_check, opened_passed}
+use Rattle.zone.proofs.Laws.Opened.{Polygon, polygon, opened_boxed}
 use Rattle.extent.specs.Extent.{Measured}
-use Rattle.extent.proofs.Laws.Told.{refused-told}
+use Rattle.extent.proofs.Laws.Told.{refused_told}
 use Rattle.extent.proofs.measure.measure_in.Statement.{statement}
 use Rattle.extent.proofs.measure.measure_in.Tie as tie
 
@@ -20,23 +20,23 @@ module _ (o : tie.After-open-into) where
   abbrev start : tie.Start
   start = o.before.before.before.before
 
-  checked : sheetCheck start.args.sheet.now ≡ o.open-into.result.check
+  checked : sheet_check start.args.sheet.now ≡ o.open-into.result.check
   checked =
-      sym (opened-check start.args.sheet.now (sheetCheck start.args.sheet.now) o.open-into.ensures.0)
+      sym (opened_check start.args.sheet.now (sheet_check start.args.sheet.now) o.open-into.ensures.0)
 
 -- Where they passed.
 module _ (c : tie.After-enum-told) where
   abbrev opened : tie.After-open-into
   opened = c.before.before.before.before
 
-  passed : sheetCheck (start opened).args.sheet.now ≡ Passed
+  passed : sheet_check (start opened).args.sheet.now ≡ Passed
   passed = checked opened ∙ c.enum_told.given.1
 
   found : Polygon (start opened).args.sheet.now opened.open-into.result opened.open-into.last.1.0
   found =
       let b = (start opened).args.sheet.now in
-      polygon b (start opened).args.scratch.now (opened-passed b opened.open-into.ensures.0 passed)
-      (sheet-fields b passed) opened.open-into.ensures.1.0
+      polygon b (start opened).args.scratch.now (opened_passed b opened.open-into.ensures.0 passed)
+      (sheet_fields_lem b passed) opened.open-into.ensures.1.0
 
 open-into-requires : tie.Need-open-into-requires
 open-into-requires c κs = search rules
@@ -60,7 +60,7 @@ returns : tie.Need-returns
 returns c =
     let o = c.before.before.before.before.before.before in
     let e = checked o ∙ c.before.before.check.given.1 in
-    (refused-told (start o).args.sheet.now _ e c.unmeasured.ensures, o.open-into.ensures.1)
+    (refused_told (start o).args.sheet.now _ e c.unmeasured.ensures, o.open-into.ensures.1)
 
 mul-size : tie.Need-overflow-mul-size
 mul-size c = record { fits = omega (arith, (found c.before).few) }
@@ -78,8 +78,8 @@ measure-polygon-requires c κs =
     let b = s.args.sheet.now in
     let f = found t in
     let e = f.points in (
-      (λ j. optionalCheck (limitOf (e j).grid) (f.row j) (e j).known (e j).second) ∙ sheet-optional b (passed t),
-      rw f.row (opened-boxed b s.args.boxes.now (sheet-plain b (passed t)) s.pre.1
+      (λ j. optional_check (limit_of (e j).grid) (f.row j) (e j).known (e j).second) ∙ sheet_optional b (passed t),
+      rw f.row (opened_boxed b s.args.boxes.now (sheet_plain b (passed t)) s.pre.1
           (opened t).open-into.ensures.1.1),
     )
 
@@ -98,15 +98,15 @@ returns-2 c =
     let r = c.measure-polygon.result in (
       record {
         checked = m.checked ∙ sym (passed t);
-        measured = λ _. subst (λ o. Measured (limitOf o.grid) (verticesOf b) o.known o.second r) f.points
-            (subst (λ vs. Measured (limitOf (opened t).open-into.result.grid) vs (opened t).open-into.result.known
+        measured = λ _. subst (λ o. Measured (limit_of o.grid) (vertices_of b) o.known o.second r) f.points
+            (subst (λ vs. Measured (limit_of (opened t).open-into.result.grid) vs (opened t).open-into.result.known
             (opened t).open-into.result.second r) f.row m);
       },
       (opened t).open-into.ensures.1,
     )
 
-pub measure-in-spec : {M : Type 1} → statement M
-measure-in-spec =
+pub measure_in_spec : {M : Type 1} → statement M
+measure_in_spec =
     tie.close
     (tie.spec
     open-into-requires

@@ -7,8 +7,8 @@ use mir.ValLaws.{to_z-of_z}
 use borrow.Author.Rules.{sfits_of}
 use Rattle.extent.specs.Sides.{axis}
 use Rattle.separation.specs.Axes.{Frame}
-use Rattle.separation.proofs.Laws.Cleared.{moved-lower}
-use Rattle.extent.proofs.Laws.Frames.{frame-x, frame-y, frame-z}
+use Rattle.separation.proofs.Laws.Cleared.{moved_lower}
+use Rattle.extent.proofs.Laws.Frames.{frame_x, frame_y, frame_z}
 use Rattle.extent.proofs.sides.bounds.Statement.{statement}
 use Rattle.extent.proofs.sides.bounds.Tie as tie
 
@@ -19,7 +19,7 @@ bound-requires : tie.Need-bound-requires
 bound-requires c κs = (
   c.requires.0,
   subst (λ k. Frame (axis k (pos 0) (pos 0)) (axis (pos 0) (pos 1) (pos 0)) (axis (pos 0) (pos 0) (pos 1)))
-      (sym (number c)) (frame-x c.args.sign c.requires.1),
+      (sym (number c)) (frame_x c.args.sign c.requires.1),
 )
 
 bound-requires-2 : tie.Need-bound-requires-2
@@ -27,7 +27,7 @@ bound-requires-2 c κs =
     let s = c.before in (
       s.requires.0,
       subst (λ k. Frame (axis (pos 0) k (pos 0)) (axis (pos 0) (pos 0) (pos 1)) (axis (pos 1) (pos 0) (pos 0)))
-          (sym (number s)) (frame-y s.args.sign s.requires.1),
+          (sym (number s)) (frame_y s.args.sign s.requires.1),
     )
 
 bound-requires-3 : tie.Need-bound-requires-3
@@ -35,7 +35,7 @@ bound-requires-3 c κs =
     let s = c.before.before in (
       s.requires.0,
       subst (λ k. Frame (axis (pos 0) (pos 0) k) (axis (pos 1) (pos 0) (pos 0)) (axis (pos 0) (pos 1) (pos 0)))
-          (sym (number s)) (frame-z s.args.sign s.requires.1),
+          (sym (number s)) (frame_z s.args.sign s.requires.1),
     )
 
 returns : tie.Need-returns
@@ -47,13 +47,13 @@ returns c =
     let vs = s.args.vertices.now in
     let n = number s in
     record {
-      along-x = moved-lower vs (λ k. axis k (pos 0) (pos 0)) _ _ _ _ n (to_z-of_z w64 x.result (sfits_of x.type-inv))
+      along_x = moved_lower vs (λ k. axis k (pos 0) (pos 0)) _ _ _ _ n (to_z-of_z w64 x.result (sfits_of x.type-inv))
           x.ensures;
-      along-y = moved-lower vs (λ k. axis (pos 0) k (pos 0)) _ _ _ _ n (to_z-of_z w64 y.result (sfits_of y.type-inv))
+      along_y = moved_lower vs (λ k. axis (pos 0) k (pos 0)) _ _ _ _ n (to_z-of_z w64 y.result (sfits_of y.type-inv))
           y.ensures;
-      along-z = moved-lower vs (λ k. axis (pos 0) (pos 0) k) _ _ _ _ n (to_z-of_z w64 z.result (sfits_of z.type-inv))
+      along_z = moved_lower vs (λ k. axis (pos 0) (pos 0) k) _ _ _ _ n (to_z-of_z w64 z.result (sfits_of z.type-inv))
           z.ensures;
     }
 
-pub bounds-spec : {M : Type 1} → statement M
-bounds-spec = tie.close (tie.spec bound-requires bound-requires-2 bound-requires-3 returns)
+pub bounds_spec : {M : Type 1} → statement M
+bounds_spec = tie.close (tie.spec bound-requires bound-requires-2 bound-requires-3 returns)

@@ -1,7 +1,7 @@
 -- `is_fronted` meets its contract: the six planes in the definition's order.
 use mathlib.Core.Path.{◌≡◌, sym, ◌∙◌}
 use borrow.Author.Rules.{rules}
-use Rattle.extent.specs.Sides.{isFronted}
+use Rattle.extent.specs.Sides.{is_fronted}
 use Rattle.extent.proofs.sides.is_fronted.Statement.{statement}
 use Rattle.extent.proofs.sides.is_fronted.Tie as tie
 
@@ -9,14 +9,14 @@ is-ahead-requires : tie.Need-is-ahead-requires
 is-ahead-requires c κs = search rules
 
 returns : tie.Need-returns
-unfolding isFronted
+unfolding is_fronted
 returns c = rw (sym c.before.is-ahead.ensures ∙ c.if1.true)
 
 is-ahead-requires-2 : tie.Need-is-ahead-requires-2
 is-ahead-requires-2 c κs = search rules
 
 returns-2 : tie.Need-returns-2
-unfolding isFronted
+unfolding is_fronted
 returns-2 c =
     let a2 = c.before in
     let i1 = a2.before in
@@ -30,7 +30,7 @@ is-ahead-requires-3 : tie.Need-is-ahead-requires-3
 is-ahead-requires-3 c κs = search rules
 
 returns-3 : tie.Need-returns-3
-unfolding isFronted
+unfolding is_fronted
 returns-3 c =
     let a3 = c.before in
     let i2 = a3.before in
@@ -47,7 +47,7 @@ is-ahead-requires-4 : tie.Need-is-ahead-requires-4
 is-ahead-requires-4 c κs = search rules
 
 returns-4 : tie.Need-returns-4
-unfolding isFronted
+unfolding is_fronted
 returns-4 c =
     let a4 = c.before in
     let i3 = a4.before in
@@ -67,7 +67,7 @@ is-ahead-requires-5 : tie.Need-is-ahead-requires-5
 is-ahead-requires-5 c κs = search rules
 
 returns-5 : tie.Need-returns-5
-unfolding isFronted
+unfolding is_fronted
 returns-5 c =
     let a5 = c.before in
     let i4 = a5.before in
@@ -90,7 +90,7 @@ is-ahead-requires-6 : tie.Need-is-ahead-requires-6
 is-ahead-requires-6 c κs = search rules
 
 returns-6 : tie.Need-returns-6
-unfolding isFronted
+unfolding is_fronted
 returns-6 c =
     let i5 = c.before in
     let a5 = i5.before in
@@ -111,8 +111,8 @@ returns-6 c =
     )
     c.is-ahead6.ensures
 
-pub is-fronted-spec : {M : Type 1} → statement M
-is-fronted-spec =
+pub is_fronted_spec : {M : Type 1} → statement M
+is_fronted_spec =
     tie.close
     (tie.spec
     is-ahead-requires

@@ -15,7 +15,7 @@ bounds-requires-2 c κs = (c.before.requires, refl)
 turned-requires : tie.Need-turned-requires
 turned-requires c κs =
     let b = c.bounds2.ensures in
-    record { at_x = b.along-x.in-range; at_y = b.along-y.in-range; at-z = b.along-z.in-range }
+    record { at_x = b.along_x.in_range; at_y = b.along_y.in_range; at_z = b.along_z.in_range }
 
 returns : tie.Need-returns
 returns c =
@@ -24,5 +24,5 @@ returns c =
     subst (λ high. Encloses vs (record { low = low.result; high = high }))
     (sym c.turned.ensures) (enclosed _ _ low.ensures c.before.bounds2.ensures)
 
-pub sides-of-spec : {M : Type 1} → statement M
-sides-of-spec = tie.close (tie.spec bounds-requires bounds-requires-2 turned-requires returns)
+pub sides_of_spec : {M : Type 1} → statement M
+sides_of_spec = tie.close (tie.spec bounds-requires bounds-requires-2 turned-requires returns)

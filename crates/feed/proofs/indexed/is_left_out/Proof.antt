@@ -4,7 +4,7 @@ use mathlib.Core.Bool.{false}
 use borrow.Author.Rules.{rules}
 use borrow.Author.Tests.{eq-eqb, ne_eqb}
 use lib.Dec.{eqb}
-use Rattle.sphere.specs.Point.{limitOf, isOffGrid}
+use Rattle.sphere.specs.Point.{limit_of, is_off_grid}
 use Rattle.sphere.proofs.Laws.Grid.{off-grid→within}
 use Rattle.sphere.proofs.Laws.Plane.{grid→fine}
 use Rattle.feed.proofs.indexed.is_left_out.Statement.{statement}
@@ -25,17 +25,17 @@ returns-2 c = let g = c.before in rw (some g.before, sym g.is-off-grid.ensures �
 
 -- The query is on the grid.
 gridded : (c : tie.Else2) →
-    let s = c.before.before.before.args in isOffGrid (limitOf s.grid) s.query ≡ false
+    let s = c.before.before.before.args in is_off_grid (limit_of s.grid) s.query ≡ false
 gridded c = sym c.before.is-off-grid.ensures ∙ c.if2.false
 
 antipodal-requires : tie.Need-antipodal-requires
 antipodal-requires c κs =
     let s = c.before.before.before in
     let g = s.args.grid in
-    (grid→fine g s.requires, grid→fine g (off-grid→within (limitOf g) s.args.query (gridded c)))
+    (grid→fine g s.requires, grid→fine g (off-grid→within (limit_of g) s.args.query (gridded c)))
 
 returns-3 : tie.Need-returns-3
 returns-3 c = let e = c.before in rw (some e.before.before, gridded e) c.antipodal.ensures
 
-pub is-left-out-spec : {M : Type 1} → statement M
-is-left-out-spec = tie.close (tie.spec returns is-off-grid-requires returns-2 antipodal-requires returns-3)
+pub is_left_out_spec : {M : Type 1} → statement M
+is_left_out_spec = tie.close (tie.spec returns is-off-grid-requires returns-2 antipodal-requires returns-3)

@@ -3,9 +3,9 @@ use mathlib.Core.Path.{◌≡◌, refl, sym, ap, ◌∙◌}
 use Prim.Native.Nat.{ℕ, ◌+◌, ◌-◌, ◌≤◌, ◌<◌}
 use native.Mathlib.Omega.{arith}
 use lib.ListN.{length}
-use Rattle.positions.specs.Text.{read, isPoint}
+use Rattle.positions.specs.Text.{read, is_point}
 use Rattle.positions.specs.Number.{onward}
-use Rattle.positions.proofs.Runs.{run_none, run-ring, run-read}
+use Rattle.positions.proofs.Runs.{run_none, run_ring, run_read}
 use borrow.Author.Rules.{rules}
 use Rattle.geojson.proofs.ahead.ahead.Statement.{statement}
 use Rattle.geojson.proofs.ahead.ahead.Tie as tie
@@ -39,8 +39,8 @@ returns c =
       at = refl;
       pending = d.ensures.0;
       low = s.requires.1;
-      ring = run-ring l s.args.s s.args.i s.requires.1 point k d.ensures.1;
-      reads = run-read l s.args.s s.args.i s.requires.1 point k d.ensures.1;
+      ring = run_ring l s.args.s s.args.i s.requires.1 point k d.ensures.1;
+      reads = run_read l s.args.s s.args.i s.requires.1 point k d.ensures.1;
     }
 
 returns-2 : tie.Need-returns-2
@@ -71,7 +71,7 @@ returns-3 c =
       reads = refl;
     }
 
-pub ahead-spec : {M : Type 1} → statement M
-ahead-spec =
+pub ahead_spec : {M : Type 1} → statement M
+ahead_spec =
     tie.close
     (tie.spec is-point-requires decimals-requires add-t12 add-t13 returns returns-2 returns-3)

@@ -1,6 +1,6 @@
 -- `import::answer_plain` meets its contract.
 use mathlib.Core.Path.{◌≡◌, ◌∙◌}
-use Rattle.sheet.specs.Write.{writeOf}
+use Rattle.sheet.specs.Write.{write_of}
 use borrow.Author.Rules.{rules}
 use Rattle.geojson.proofs.import.answer_plain.Statement.{statement}
 use Rattle.geojson.proofs.import.answer_plain.Tie as tie
@@ -17,11 +17,11 @@ write-answer-requires c κs = search rules
 returns : tie.Need-returns
 returns c =
     let i = c.before.before.before.before.args in
-    let k = c.before.before.on-grid.ensures in
+    let k = c.before.before.on_grid_lem.ensures in
     let s = c.before.on-grid2.ensures in
     c.write-answer.ensures
-    ∙ (λ j. writeOf i.charset i.name.now (k j) i.grid i.vertices.now (s j) i.room)
+    ∙ (λ j. write_of i.charset i.name.now (k j) i.grid i.vertices.now (s j) i.room)
 
-pub answer-plain-spec : {M : Type 1} → statement M
-answer-plain-spec =
+pub answer_plain_spec : {M : Type 1} → statement M
+answer_plain_spec =
     tie.close (tie.spec on-grid-requires on-grid-requires-2 write-answer-requires returns)

@@ -6,8 +6,8 @@ use native.Mathlib.Omega.{arith}
 use lib.IntN.{ℤ}
 use lib.ListN.{length, take}
 use lib.Seq.{length-take-le}
-use Rattle.geojson.specs.Import.{plainWriteOf, plainWrittenTo}
-use Rattle.geojson.proofs.Imports.{row_of, import-refused, buffer-refused, import-kept, buffer-kept}
+use Rattle.geojson.specs.Import.{plain_write_of, plain_written_to}
+use Rattle.geojson.proofs.Imports.{row_of, import_refused, buffer_refused, import_kept, buffer_kept}
 use borrow.Author.Rules.{rules}
 use Rattle.geojson.proofs.import.import.Statement.{statement}
 use Rattle.geojson.proofs.import.import.Tie as tie
@@ -42,7 +42,7 @@ returns : tie.Need-returns
 returns c =
     let i = c.before.before.before.before.before.before.before.before.before.args in
     let e = sym c.before.before.before.before.scan.ensures.0 ∙ c.before.number.given.1 in
-    (import-refused i.grid _ _ _ e _ _ _ _, buffer-refused i.grid _ _ _ e i.zone _ _ _ _)
+    (import_refused i.grid _ _ _ e _ _ _ _, buffer_refused i.grid _ _ _ e i.zone _ _ _ _)
 
 same_length : tie.Need-same-length
 same_length c = search rules
@@ -58,15 +58,15 @@ returns-2 c =
     let out = s.new.1.1.0 in
     let row = ap (λ (k : ℕ). take k out) l.ensures.0 ∙ row_of i.grid s.result _ i.text.now out g s.ensures.1 in
     let w = c.before.before.write-plain.ensures in (
-      w.0 ∙ ap (λ (v : List ℤ). plainWriteOf i.grid i.charset i.name.now i.known v (length i.buffer.now)) row
-          ∙ import-kept i.grid i.text.now _ e i.charset i.name.now i.known (length i.buffer.now),
-      w.1 ∙ ap (λ (v : List ℤ). plainWrittenTo i.grid i.zone i.charset i.name.now i.known v
+      w.0 ∙ ap (λ (v : List ℤ). plain_write_of i.grid i.charset i.name.now i.known v (length i.buffer.now)) row
+          ∙ import_kept i.grid i.text.now _ e i.charset i.name.now i.known (length i.buffer.now),
+      w.1 ∙ ap (λ (v : List ℤ). plain_written_to i.grid i.zone i.charset i.name.now i.known v
           i.buffer.now) row
-          ∙ buffer-kept i.grid i.text.now _ e i.zone i.charset i.name.now i.known i.buffer.now,
+          ∙ buffer_kept i.grid i.text.now _ e i.zone i.charset i.name.now i.known i.buffer.now,
     )
 
-pub import-spec : {M : Type 1} → statement M
-import-spec =
+pub import_spec : {M : Type 1} → statement M
+import_spec =
     tie.close
     (tie.spec
     slice-aggregate-scan

@@ -6,8 +6,8 @@ use native.Mathlib.Omega.{arith}
 use lib.IntN.{ℤ}
 use lib.ListN.{length, take}
 use lib.Seq.{length-take-le}
-use Rattle.geojson.specs.Import.{plainWriteOf, plainWrittenTo}
-use Rattle.geojson.proofs.Imports.{row_of, import-refused, buffer-refused, import-kept, buffer-kept}
+use Rattle.geojson.specs.Import.{plain_write_of, plain_written_to}
+use Rattle.geojson.proofs.Imports.{row_of, import_refused, buffer_refused, import_kept, buffer_kept}
 use borrow.Author.Rules.{rules}
 use Rattle.geojson.proofs.import.import_answer.Statement.{statement}
 use Rattle.geojson.proofs.import.import_answer.Tie as tie
@@ -42,7 +42,7 @@ returns : tie.Need-returns
 returns c =
     let i = c.before.before.before.before.before.before.before.before.args in
     let e = sym c.before.before.before.before.scan.ensures.0 ∙ c.before.number.given.1 in
-    import-refused i.grid _ _ _ e _ _ _ _
+    import_refused i.grid _ _ _ e _ _ _ _
 
 returns-2 : tie.Need-returns-2
 returns-2 c =
@@ -53,12 +53,12 @@ returns-2 c =
     let l = c.before.before.list-size in
     let out = s.new.1.1.0 in
     let row = ap (λ (k : ℕ). take k out) l.ensures.0 ∙ row_of i.grid s.result _ i.text.now out g s.ensures.1 in
-    c.answer-plain.ensures ∙ ap (λ (v : List ℤ). plainWriteOf i.grid i.charset i.name.now i.known v
+    c.answer-plain.ensures ∙ ap (λ (v : List ℤ). plain_write_of i.grid i.charset i.name.now i.known v
     i.room) row
-    ∙ import-kept i.grid i.text.now _ e i.charset i.name.now i.known i.room
+    ∙ import_kept i.grid i.text.now _ e i.charset i.name.now i.known i.room
 
-pub import-answer-spec : {M : Type 1} → statement M
-import-answer-spec =
+pub import_answer_spec : {M : Type 1} → statement M
+import_answer_spec =
     tie.close
     (tie.spec
     slice-aggregate-scan

@@ -1,8 +1,8 @@
 -- `scan::finish` meets its contract.
 use mathlib.Core.Path.{◌≡◌, refl, sym, ap, ap₂, ◌∙◌}
 use native.Mathlib.Omega.{arith}
-use Rattle.geojson.specs.Scan.{finishOf}
-use Rattle.geojson.proofs.Laws.{passed-count}
+use Rattle.geojson.specs.Scan.{finish_of}
+use Rattle.geojson.proofs.Laws.{passed_count}
 use borrow.Author.Rules.{rules}
 use Rattle.geojson.proofs.scan.finish.Statement.{statement}
 use Rattle.geojson.proofs.scan.finish.Tie as tie
@@ -18,16 +18,16 @@ enum_told c = search rules
 
 sub-t7 : tie.Need-overflow-sub-t7
 sub-t7 c =
-    let h = passed-count _ (sym c.before.before.before.ring-check.ensures ∙ c.before.enum_told.given.1) in
+    let h = passed_count _ (sym c.before.before.before.ring-check.ensures ∙ c.before.enum_told.given.1) in
     omega arith
 
 returns : tie.Need-returns
-unfolding finishOf
+unfolding finish_of
 returns c =
     rw (sym c.before.before.before.ring-check.ensures ∙ c.before.number.given.1)
 
 returns-2 : tie.Need-returns-2
-unfolding finishOf
+unfolding finish_of
 returns-2 c =
     rw (sym c.before.before.before.ring-check.ensures ∙ c.before.enum_told.given.1)
 

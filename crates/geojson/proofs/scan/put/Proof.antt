@@ -6,8 +6,8 @@ use mir.ValLaws.{to_z-of_z}
 use native.Mathlib.Omega.{arith}
 use Prim.Native.Nat.{suc, ◌+◌, ◌*◌}
 use lib.ListN.{length-set}
-use Rattle.angles.proofs.Numbers.{numbers_of}
-use Rattle.geojson.specs.Scan.{listOn, put_of}
+use Rattle.angles.proofs.Numbers.{numbers_of_lem}
+use Rattle.geojson.specs.Scan.{list_on, put_of}
 use borrow.Author.Rules.{rules}
 use Rattle.geojson.proofs.scan.put.Statement.{statement}
 use Rattle.geojson.proofs.scan.put.Tie as tie
@@ -48,18 +48,18 @@ same_length : tie.Need-same-length
 same_length c = search rules
 
 returns : tie.Need-returns
-unfolding put_of listOn
+unfolding put_of list_on
 returns c =
     let s = c.before.before.before.before.before in
     let k = s.args.k in
     let v = c.before.before.before.Numbers-on.result in
-    let w = numbers_of v c.struct-told3.given in
+    let w = numbers_of_lem v c.struct-told3.given in
     let one : k * 3 + 1 ≡ suc (k * 3) = omega arith in
     let two : k * 3 + 2 ≡ suc (suc (k * 3)) = omega arith in
     rw (
       to_z-of_z w32 _ w.at_x,
       to_z-of_z w32 _ w.at_y,
-      to_z-of_z w32 _ w.at-z,
+      to_z-of_z w32 _ w.at_z,
       one,
       two,
       lt-ltb _ _

@@ -8,13 +8,13 @@ use lib.Arith.{lt_of_le-ne}
 use lib.ListN.{length, get_or}
 use Rattle.positions.specs.declared.grammar.Reading.TheVariants.{Whole, Dead}
 use Rattle.positions.specs.Text.{start, read, next_of}
-use Rattle.positions.proofs.TextLaws.{next-ok, read-dead, read-on, read-end}
+use Rattle.positions.proofs.TextLaws.{next_ok, read_dead, read_on, read_end}
 use Rattle.positions.specs.Number.{walked, held}
-use Rattle.positions.proofs.RingLaws.{small-walked, done-length}
-use Rattle.geojson.specs.Scan.{step_of, out_of, finishOf}
-use Rattle.geojson.proofs.Laws.{readerAt, Filled, start-reader, start-filled, step-reader, step-filled}
-use Rattle.geojson.proofs.Laws.{run-reader, run-filled}
-use Rattle.geojson.proofs.Laws.{scan-dead, scan-whole, listed}
+use Rattle.positions.proofs.RingLaws.{small_walked, done_length}
+use Rattle.geojson.specs.Scan.{step_of, out_of, finish_of}
+use Rattle.geojson.proofs.Laws.{reader_at, Filled, start_reader, start_filled, step_reader, step_filled}
+use Rattle.geojson.proofs.Laws.{run_reader, run_filled}
+use Rattle.geojson.proofs.Laws.{scan_dead, scan_whole, listed}
 use Rattle.geojson.proofs.scan.scan_with.Statement.{statement}
 use Rattle.geojson.proofs.scan.scan_with.Tie as tie
 
@@ -24,7 +24,7 @@ invariant-loop classes table grid text out₀ s₀ r₀ i₀ out s r i =
     × (s.at < 76)
     × (s.ring < 29)
     × (read text s i (length text - i) ≡ read text start 0 (length text))
-    × (r ≡ readerAt text i)
+    × (r ≡ reader_at text i)
     × Filled grid out (walked held text i).done
 
 abbrev decreases-loop : tie.decreases-loop
@@ -41,8 +41,8 @@ loop-holds c =
       omega arith,
       omega arith,
       rw e,
-      c.start.ensures ∙ start-reader l,
-      start-filled c.before.before.args.grid l _
+      c.start.ensures ∙ start_reader l,
+      start_filled c.before.before.args.grid l _
           c.before.before.requires.0,
     )
 
@@ -65,7 +65,7 @@ returns c =
     let l = c.before.before.before.before.before.before.before.args.text.now in
     let v = c.before.before.before.before.loop in
     let e = ap (λ z. z.at) (sym c.before.next.ensures) ∙ c.if1.true in (
-      scan-dead l v.i (sym v.invariant.3 ∙ read-dead l v.s v.i (length l)
+      scan_dead l v.i (sym v.invariant.3 ∙ read_dead l v.s v.i (length l)
           c.before.before.before.loop-test.true e),
       v.invariant.5.size,
     )
@@ -75,8 +75,8 @@ step-requires c κs =
     let l = c.before.before.before.before.before.before.before.before.args.text.now in
     let v = c.before.before.before.before.before.loop in
     let e = ap (λ z. z.ring.count) v.invariant.4 in
-    let d = done-length held l v.i in
-    (v.invariant.5.size, rw v.invariant.4 (small-walked l v.i), omega arith)
+    let d = done_length held l v.i in
+    (v.invariant.5.size, rw v.invariant.4 (small_walked l v.i), omega arith)
 
 small : (c : tie.After-step-arg invariant-loop decreases-loop) →
     c.before.before.before.before.before.loop.i + 1 ≤ 18446744073709551615
@@ -100,24 +100,24 @@ next-state : (a : tie.After-out invariant-loop decreases-loop) →
 next-state a =
     let v = a.before.before.before.before.before.before.before.loop in
     let l = a.before.before.before.before.before.before.before.before.before.before.args.text.now in
-    let k = next-ok v.s (get_or l v.i 0) v.invariant.1 v.invariant.2 in
+    let k = next_ok v.s (get_or l v.i 0) v.invariant.1 v.invariant.2 in
     rw a.before.before.before.before.next.ensures (lt_of_le-ne k.at (next-on a), k.ring)
 
 next-reader : (a : tie.After-out invariant-loop decreases-loop) →
     a.before.step.result
-    ≡ readerAt a.before.before.before.before.before.before.before.before.before.before.args.text.now
+    ≡ reader_at a.before.before.before.before.before.before.before.before.before.before.args.text.now
     (suc a.before.before.before.before.before.before.before.loop.i)
 next-reader a =
     let l = a.before.before.before.before.before.before.before.before.before.before.args.text.now in
     let v = a.before.before.before.before.before.before.before.loop in
-    a.before.step.ensures.0 ∙ ap (λ z. step_of z (get_or l v.i 0)) v.invariant.4 ∙ step-reader l v.i
+    a.before.step.ensures.0 ∙ ap (λ z. step_of z (get_or l v.i 0)) v.invariant.4 ∙ step_reader l v.i
 
 ahead-requires : tie.Need-ahead-requires invariant-loop decreases-loop
 ahead-requires c κs =
     let l = c.before.before.before.before.before.before.before.before.before.before.args.text.now in
     let v = c.before.before.before.before.before.before.before.loop in
     let h = c.before.before.before.before.before.before.loop-test.true in
-    (omega arith, (next-state c).0, (next-state c).1, rw (next-reader c) (small-walked l (suc v.i)))
+    (omega arith, (next-state c).0, (next-state c).1, rw (next-reader c) (small_walked l (suc v.i)))
 
 resumed-requires : tie.Need-resumed-requires invariant-loop decreases-loop
 resumed-requires c κs = search rules
@@ -142,17 +142,17 @@ loop-again c =
     let h = q.run.inside in
     let n = c.before.before.before.ahead.result in
     let f : Filled g (out_of g v.r b v.out) (walked held l (suc v.i)).done =
-    rw v.invariant.4 (step-filled g l v.i v.out v.invariant.5) in
-    let on = sym (read-on l v.s v.i (length l) (omega arith) (next-on a)) ∙ v.invariant.3 in (
+    rw v.invariant.4 (step_filled g l v.i v.out v.invariant.5) in
+    let on = sym (read_on l v.s v.i (length l) (omega arith) (next-on a)) ∙ v.invariant.3 in (
       omega arith,
       q.low,
       q.ring,
       sym q.reads ∙ rw a.before.before.before.before.next.ensures on,
       c.resumed.ensures
-          ∙ run-reader l (suc v.i) q.k a.before.step.result n.pending q.run
+          ∙ run_reader l (suc v.i) q.k a.before.step.result n.pending q.run
           (next-reader a) q.pending
-          ∙ ap (readerAt l) (sym t),
-      rw (t, a.before.step.ensures.1) (run-filled g l (suc v.i) q.k _ q.run f),
+          ∙ ap (reader_at l) (sym t),
+      rw (t, a.before.step.ensures.1) (run_filled g l (suc v.i) q.k _ q.run f),
     )
 
 finish-requires : tie.Need-finish-requires invariant-loop decreases-loop
@@ -170,8 +170,8 @@ returns-2 c =
     let v = c.before.before.before.loop in
     let is : v.i ≡ length l = omega arith in
     let e = sym (rw (eq-eqb _ _ c.before.if2.true) at
-    (sym (read-end l v.s v.i (length l) c.before.before.loop-test.false) ∙ v.invariant.3)) in
-    let whole = c.finish.ensures ∙ ap finishOf (v.invariant.4 ∙ ap (readerAt l) is) ∙ scan-whole l e in
+    (sym (read_end l v.s v.i (length l) c.before.before.loop-test.false) ∙ v.invariant.3)) in
+    let whole = c.finish.ensures ∙ ap finish_of (v.invariant.4 ∙ ap (reader_at l) is) ∙ scan_whole l e in
     (whole, listed _ _ l v.out whole (rw is at v.invariant.5))
 
 finish-requires-2 : tie.Need-finish-requires-2 invariant-loop decreases-loop
@@ -189,8 +189,8 @@ returns-3 c =
     let v = c.before.before.before.before.loop in
     let is : v.i ≡ length l = omega arith in
     let e = sym (rw (ne_eqb _ _ c.before.before.if2.false, eq-eqb _ _ c.before.if3.true) at
-    (sym (read-end l v.s v.i (length l) c.before.before.before.loop-test.false) ∙ v.invariant.3)) in
-    let whole = c.finish2.ensures ∙ ap finishOf (v.invariant.4 ∙ ap (readerAt l) is) ∙ scan-whole l e in
+    (sym (read_end l v.s v.i (length l) c.before.before.before.loop-test.false) ∙ v.invariant.3)) in
+    let whole = c.finish2.ensures ∙ ap finish_of (v.invariant.4 ∙ ap (reader_at l) is) ∙ scan_whole l e in
     (whole, listed _ _ l v.out whole (rw is at v.invariant.5))
 
 same-length-4 : tie.Need-same-length-4 invariant-loop decreases-loop
@@ -204,11 +204,11 @@ returns-4 c =
     let l = c.before.before.before.before.before.before.args.text.now in
     let v = c.before.before.before.loop in
     let e = sym (rw (ne_eqb _ _ c.before.if2.false, ne_eqb _ _ c.if3.false) at
-    (sym (read-end l v.s v.i (length l) c.before.before.loop-test.false) ∙ v.invariant.3)) in
-    (scan-dead l v.i e, v.invariant.5.size)
+    (sym (read_end l v.s v.i (length l) c.before.before.loop-test.false) ∙ v.invariant.3)) in
+    (scan_dead l v.i e, v.invariant.5.size)
 
-pub scan-with-spec : {M : Type 1} → statement M
-scan-with-spec =
+pub scan_with_spec : {M : Type 1} → statement M
+scan_with_spec =
     tie.close
     (tie.spec
     invariant-loop

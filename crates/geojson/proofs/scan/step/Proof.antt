@@ -1,6 +1,6 @@
 -- `scan::step` meets its contract.
 use mathlib.Core.Path.{◌≡◌, sym, ◌∙◌}
-use Rattle.positions.proofs.Numbers.{digit-no-end}
+use Rattle.positions.proofs.Numbers.{digit_no_end}
 use Rattle.geojson.specs.Scan.{step_of, out_of}
 use borrow.Author.Rules.{rules}
 use Rattle.geojson.proofs.scan.step.Statement.{statement}
@@ -16,7 +16,7 @@ returns : tie.Need-returns
 unfolding step_of out_of
 returns c =
     let i = c.before.before.before.before.before.args in
-    let e = digit-no-end i.r.pending i.b (sym c.before.before.is_digit.ensures ∙ c.before.if1.true) in
+    let e = digit_no_end i.r.pending i.b (sym c.before.before.is_digit.ensures ∙ c.before.if1.true) in
     (rw (e, c.next.ensures), rw e)
 
 ends-requires : tie.Need-ends-requires

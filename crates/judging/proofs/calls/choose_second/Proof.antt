@@ -5,17 +5,17 @@ use mathlib.Core.Bool.{true}
 use mathlib.Core.List.{[], ◌∷◌}
 use borrow.Author.Rules.{rules}
 use borrow.Author.Tests.{eq-eqb, ne_eqb}
-use Rattle.sphere.specs.Point.{limitOf}
+use Rattle.sphere.specs.Point.{limit_of}
 use Rattle.answer.specs.declared.Check.TheVariants.{Passed}
-use Rattle.polygon.specs.Checks.{acceptCheck}
-use Rattle.polygon.specs.Pair.{is_whole, chooseOf}
-use Rattle.polygon.specs.Grids.{isMixed, gridCheck, gridChooseOf}
-use Rattle.judging.proofs.Laws.Accept.{room-any, after-boxed}
+use Rattle.polygon.specs.Checks.{accept_check}
+use Rattle.polygon.specs.Pair.{is_whole, choose_of}
+use Rattle.polygon.specs.Grids.{is_mixed, grid_check, grid_choose_of}
+use Rattle.judging.proofs.Laws.Accept.{room_any, after_boxed}
 use Rattle.judging.proofs.calls.choose_second.Statement.{statement}
 use Rattle.judging.proofs.calls.choose_second.Tie as tie
 
 returns : tie.Need-returns
-unfolding gridChooseOf
+unfolding grid_choose_of
 returns c = rw (ne_eqb _ _ c.if1.true)
 
 is-mixed-requires : tie.Need-is-mixed-requires
@@ -33,13 +33,13 @@ enum-known-number c = search rules
 -- What lines 10 and 28 say.
 checked : (c : tie.After-grid-check) →
     let a = c.before.before.before.args in
-    c.grid-check.result ≡ gridCheck a.vertices.now (isMixed a.grid (a.known.grid ∷ a.candidates-grid ∷ []))
+    c.grid-check.result ≡ grid_check a.vertices.now (is_mixed a.grid (a.known.grid ∷ a.candidates-grid ∷ []))
 checked c =
     c.grid-check.ensures
-    ∙ ap (gridCheck c.before.before.before.args.vertices.now) c.before.is-mixed.ensures
+    ∙ ap (grid_check c.before.before.before.args.vertices.now) c.before.is-mixed.ensures
 
 returns-2 : tie.Need-returns-2
-unfolding gridChooseOf
+unfolding grid_choose_of
 returns-2 c =
     let k = c.before.before.before in
     rw (eq-eqb _ _ k.before.before.if1.false, sym (checked k) ∙ c.before.number.given.1)
@@ -47,7 +47,7 @@ returns-2 c =
 -- They passed.
 unmixed : (c : tie.After-boxes) →
     let a = c.before.before.before.before.before.before.args in
-    gridCheck a.vertices.now (isMixed a.grid (a.known.grid ∷ a.candidates-grid ∷ [])) ≡ Passed
+    grid_check a.vertices.now (is_mixed a.grid (a.known.grid ∷ a.candidates-grid ∷ [])) ≡ Passed
 unmixed c = sym (checked c.before.before.before) ∙ c.before.enum_told.given.1
 
 whole : (c : tie.After-boxes) →
@@ -59,7 +59,7 @@ slice-aggregate-accept-boxed c = search rules
 
 accept-boxed-requires : tie.Need-accept-boxed-requires
 accept-boxed-requires c κs =
-    room-any c.before.before.before.before.before.before.args.vertices.now _ (search rules)
+    room_any c.before.before.before.before.before.before.args.vertices.now _ (search rules)
 
 enum-told-2 : tie.Need-enum-told-2
 enum-told-2 c = search rules
@@ -68,7 +68,7 @@ enum-known-number-2 : tie.Need-enum-known-number-2
 enum-known-number-2 c = search rules
 
 returns-3 : tie.Need-returns-3
-unfolding gridChooseOf chooseOf
+unfolding grid_choose_of choose_of
 returns-3 c =
     let a = c.before.before.before.before in
     rw (whole a.before, unmixed a.before, sym a.accept-boxed.ensures.0 ∙ c.before.number2.given.1)
@@ -76,7 +76,7 @@ returns-3 c =
 -- Lines 10 to 16 passed.
 accepted : (c : tie.After-enum-told2) →
     let s = c.before.before.before.before.before.before.before.before.before.before.args in
-    acceptCheck (limitOf s.grid) s.vertices.now s.known.point ≡ Passed
+    accept_check (limit_of s.grid) s.vertices.now s.known.point ≡ Passed
 accepted c = sym c.before.before.before.accept-boxed.ensures.0 ∙ c.enum-told2.given.1
 
 slice-aggregate-earliest : tie.Need-slice-aggregate-earliest
@@ -91,18 +91,18 @@ earliest-requires c κs =
     let vs = s.vertices.now in (
       ok,
       rw (a.accept-boxed.ensures.1, ok)
-          (after-boxed (limitOf s.grid) vs s.known.point _ ok (room-any vs _ (search rules))),
+          (after_boxed (limit_of s.grid) vs s.known.point _ ok (room_any vs _ (search rules))),
     )
 
 returns-4 : tie.Need-returns-4
-unfolding gridChooseOf chooseOf
+unfolding grid_choose_of choose_of
 returns-4 c =
     let t = c.before.before in
     let b = t.before.before.before.before in
     rw (whole b, unmixed b, accepted t) c.earliest.ensures
 
-pub choose-second-spec : {M : Type 1} → statement M
-choose-second-spec =
+pub choose_second_spec : {M : Type 1} → statement M
+choose_second_spec =
     tie.close
     (tie.spec
     returns

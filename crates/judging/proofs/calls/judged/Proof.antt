@@ -2,17 +2,17 @@
 use mathlib.Core.Path.{◌≡◌, sym, ap, ◌∙◌}
 use mathlib.Core.List.{[], ◌∷◌}
 use borrow.Author.Rules.{rules}
-use Rattle.sphere.specs.Point.{limitOf}
+use Rattle.sphere.specs.Point.{limit_of}
 use Rattle.answer.specs.declared.Check.TheVariants.{Passed}
-use Rattle.polygon.specs.Checks.{acceptCheck, judgeCheck}
+use Rattle.polygon.specs.Checks.{accept_check, judge_check}
 use Rattle.polygon.specs.Verdict.{answer_of}
-use Rattle.polygon.specs.Pair.{judgeFrom}
-use Rattle.polygon.specs.Grids.{isMixed, gridCheck, gridAnswerOf}
-use Rattle.search.specs.Walk.{lookedIn}
-use Rattle.judging.specs.Judge.{lookedOf, gridLookedOf}
-use Rattle.judging.proofs.Laws.Accept.{room-any, after-boxed}
-use Rattle.judging.proofs.Laws.Judge.{none-looked}
-use Rattle.judging.proofs.Laws.From.{from-none, optional-none}
+use Rattle.polygon.specs.Pair.{judge_from}
+use Rattle.polygon.specs.Grids.{is_mixed, grid_check, grid_answer_of}
+use Rattle.search.specs.Walk.{looked_in}
+use Rattle.judging.specs.Judge.{looked_of, grid_looked_of}
+use Rattle.judging.proofs.Laws.Accept.{room_any, after_boxed}
+use Rattle.judging.proofs.Laws.Judge.{none_looked}
+use Rattle.judging.proofs.Laws.From.{from_none, optional_none}
 use Rattle.judging.proofs.calls.judged.Statement.{statement}
 use Rattle.judging.proofs.calls.judged.Tie as tie
 
@@ -31,24 +31,24 @@ enum-known-number c = search rules
 -- What lines 10 and 28 say.
 checked : (c : tie.After-grid-check) →
     let a = c.before.before.args in
-    c.grid-check.result ≡ gridCheck a.vertices.now (isMixed a.grid (a.known.grid ∷ a.query.grid ∷ []))
+    c.grid-check.result ≡ grid_check a.vertices.now (is_mixed a.grid (a.known.grid ∷ a.query.grid ∷ []))
 checked c =
-    c.grid-check.ensures ∙ ap (gridCheck c.before.before.args.vertices.now) c.before.is-mixed.ensures
+    c.grid-check.ensures ∙ ap (grid_check c.before.before.args.vertices.now) c.before.is-mixed.ensures
 
 unjudged-requires : tie.Need-unjudged-requires
 unjudged-requires c κs = search rules
 
 returns : tie.Need-returns
-unfolding gridAnswerOf gridLookedOf
+unfolding grid_answer_of grid_looked_of
 returns c =
     let g = c.before.before.before.before in
     let e = sym (checked g) ∙ c.before.before.number.given.1 in
-    (rw e c.unjudged.ensures.0, rw e (c.unjudged.ensures.1 ∙ none-looked g.before.before.args.mode))
+    (rw e c.unjudged.ensures.0, rw e (c.unjudged.ensures.1 ∙ none_looked g.before.before.args.mode))
 
 -- They passed.
 unmixed : (c : tie.After-boxes) →
     let a = c.before.before.before.before.before.args in
-    gridCheck a.vertices.now (isMixed a.grid (a.known.grid ∷ a.query.grid ∷ [])) ≡ Passed
+    grid_check a.vertices.now (is_mixed a.grid (a.known.grid ∷ a.query.grid ∷ [])) ≡ Passed
 unmixed c = sym (checked c.before.before.before) ∙ c.before.enum_told.given.1
 
 slice-aggregate-accept-boxed : tie.Need-slice-aggregate-accept-boxed
@@ -56,7 +56,7 @@ slice-aggregate-accept-boxed c = search rules
 
 accept-boxed-requires : tie.Need-accept-boxed-requires
 accept-boxed-requires c κs =
-    room-any c.before.before.before.before.before.args.vertices.now _ (search rules)
+    room_any c.before.before.before.before.before.args.vertices.now _ (search rules)
 
 enum-told-2 : tie.Need-enum-told-2
 enum-told-2 c = search rules
@@ -68,13 +68,13 @@ unjudged-requires-2 : tie.Need-unjudged-requires-2
 unjudged-requires-2 c κs = search rules
 
 returns-2 : tie.Need-returns-2
-unfolding gridAnswerOf gridLookedOf answer_of lookedOf judgeCheck
+unfolding grid_answer_of grid_looked_of answer_of looked_of judge_check
 returns-2 c =
     let a = c.before.before.before.before.before in
     let u = unmixed a.before in
     let e = sym a.accept-boxed.ensures.0 ∙ c.before.before.number2.given.1 in
     let mode = a.before.before.before.before.before.before.args.mode in
-    (rw (u, e) c.unjudged2.ensures.0, rw (u, e) (c.unjudged2.ensures.1 ∙ none-looked mode))
+    (rw (u, e) c.unjudged2.ensures.0, rw (u, e) (c.unjudged2.ensures.1 ∙ none_looked mode))
 
 no-second-requires : tie.Need-no-second-requires
 no-second-requires c κs = search rules
@@ -82,7 +82,7 @@ no-second-requires c κs = search rules
 -- Lines 10 to 16 passed.
 accepted : (c : tie.After-enum-told2) →
     let s = c.before.before.before.before.before.before.before.before.before.args in
-    acceptCheck (limitOf s.grid) s.vertices.now s.known.point ≡ Passed
+    accept_check (limit_of s.grid) s.vertices.now s.known.point ≡ Passed
 accepted c = sym c.before.before.before.accept-boxed.ensures.0 ∙ c.enum-told2.given.1
 
 slice-aggregate-judge-boxed : tie.Need-slice-aggregate-judge-boxed
@@ -94,31 +94,31 @@ judge-boxed-requires c κs =
     let ok = accepted t in
     let a = t.before.before.before in
     let s = a.before.before.before.before.before.before.args in
-    let limit = limitOf s.grid in
+    let limit = limit_of s.grid in
     let vs = s.vertices.now in (
-      rw c.before.no_second.ensures (optional-none limit vs s.known.point ok),
+      rw c.before.no_second.ensures (optional_none limit vs s.known.point ok),
       rw (a.accept-boxed.ensures.1, ok)
-          (after-boxed limit vs s.known.point _ ok (room-any vs _ (search rules))),
+          (after_boxed limit vs s.known.point _ ok (room_any vs _ (search rules))),
     )
 
 returns-3 : tie.Need-returns-3
-unfolding gridAnswerOf gridLookedOf
+unfolding grid_answer_of grid_looked_of
 returns-3 c =
     let n = c.before.before in
     let a = n.before.before.before.before in
     let s = a.before.before.before.before.before.before.args in
-    let limit = limitOf s.grid in
+    let limit = limit_of s.grid in
     let vs = s.vertices.now in
     let P = s.query.point in
-    let first : judgeFrom s.known.point n.no_second.result P ≡ s.known.point =
-    rw n.no_second.ensures (from-none s.known.point P) in
+    let first : judge_from s.known.point n.no_second.result P ≡ s.known.point =
+    rw n.no_second.ensures (from_none s.known.point P) in
     let said = c.judge-boxed.ensures in (
       rw (unmixed a.before) (said.0 ∙ ap (λ U. answer_of limit vs U P) first),
-      rw (unmixed a.before) (said.1 ∙ ap (λ U. lookedIn s.mode (lookedOf limit vs U P)) first),
+      rw (unmixed a.before) (said.1 ∙ ap (λ U. looked_in s.mode (looked_of limit vs U P)) first),
     )
 
-pub judged-spec : {M : Type 1} → statement M
-judged-spec =
+pub judged_spec : {M : Type 1} → statement M
+judged_spec =
     tie.close
     (tie.spec
     is-mixed-requires

@@ -3,17 +3,17 @@ use mathlib.Core.Path.{◌∙◌, ap, ap₂}
 use mathlib.Core.Bool.{Bool}
 use Rattle.integers.specs.Sign.{sign_of, is_zero}
 use Rattle.sphere.specs.declared.point.Point.{Point}
-use Rattle.sphere.specs.Point.{isBeyond, is_null}
-use Rattle.sphere.specs.Direction.{isSameDirection, isAntipodal}
-use Rattle.sphere.specs.Orientation.{orientationOf}
-use Rattle.polygon.proofs.Laws.Edges.{ends-within}
-use Rattle.polygon.proofs.Laws.Checks.{gridded-fine}
+use Rattle.sphere.specs.Point.{is_beyond, is_null}
+use Rattle.sphere.specs.Direction.{is_same_direction, is_antipodal}
+use Rattle.sphere.specs.Orientation.{orientation_of}
+use Rattle.polygon.proofs.Laws.Edges.{ends_within}
+use Rattle.polygon.proofs.Laws.Checks.{gridded_fine}
 use borrow.Author.Rules.{rules}
 use Rattle.polygon.proofs.checks.refuses.Statement.{statement}
 use Rattle.polygon.proofs.checks.refuses.Tie as tie
 
-abbrev onCircle : Point → Point → Point → Bool
-onCircle X a b = is_zero (sign_of (orientationOf a b X))
+abbrev on_circle : Point → Point → Point → Bool
+on_circle X a b = is_zero (sign_of (orientation_of a b X))
 
 enum_told : tie.Need-enum-told
 enum_told c = search rules
@@ -45,8 +45,8 @@ end-of-requires c κs = search rules
 same-direction-requires : tie.Need-same-direction-requires
 same-direction-requires c κs =
     let s = c.before.before.before.before in
-    let grid = gridded-fine s.args.grid (rw c.before.before.enum-told3.given.1 at s.requires.1) in
-    ends-within grid s.requires.0 c.before.vertex-at3.ensures c.end_of_lem.ensures
+    let grid = gridded_fine s.args.grid (rw c.before.before.enum-told3.given.1 at s.requires.1) in
+    ends_within grid s.requires.0 c.before.vertex-at3.ensures c.end_of_lem.ensures
 
 enum-told-4 : tie.Need-enum-told-4
 enum-told-4 c = search rules
@@ -60,8 +60,8 @@ end-of-requires-2 c κs = search rules
 antipodal-requires : tie.Need-antipodal-requires
 antipodal-requires c κs =
     let s = c.before.before.before.before in
-    let grid = gridded-fine s.args.grid (rw c.before.before.enum-told4.given.1 at s.requires.1) in
-    ends-within grid s.requires.0 c.before.vertex-at4.ensures c.end-of2.ensures
+    let grid = gridded_fine s.args.grid (rw c.before.before.enum-told4.given.1 at s.requires.1) in
+    ends_within grid s.requires.0 c.before.vertex-at4.ensures c.end-of2.ensures
 
 enum-known-line : tie.Need-enum-known-line
 enum-known-line c = search rules
@@ -76,7 +76,7 @@ on-circle-requires : tie.Need-on-circle-requires
 on-circle-requires c κs =
     let s = c.before.before.before.before.before in
     let p = rw c.before.before.before.line.given.1 at s.requires.1 in
-    let w = ends-within p.0 s.requires.0 c.before.vertex-at5.ensures c.end-of3.ensures in
+    let w = ends_within p.0 s.requires.0 c.before.vertex-at5.ensures c.end-of3.ensures in
     (w.0, w.1, p.1)
 
 enum-known-line-2 : tie.Need-enum-known-line-2
@@ -92,13 +92,13 @@ on-circle-requires-2 : tie.Need-on-circle-requires-2
 on-circle-requires-2 c κs =
     let s = c.before.before.before.before.before in
     let p = rw c.before.before.before.line2.given.1 at s.requires.1 in
-    let w = ends-within p.0 s.requires.0 c.before.vertex-at6.ensures c.end-of4.ensures in
+    let w = ends_within p.0 s.requires.0 c.before.vertex-at6.ensures c.end-of4.ensures in
     (w.0, w.1, p.1)
 
 returns : tie.Need-returns
 returns c =
     rw c.before.before.enum_told.given.1
-    (c.is-beyond.ensures ∙ ap (isBeyond _) c.before.vertex-at.ensures)
+    (c.is-beyond.ensures ∙ ap (is_beyond _) c.before.vertex-at.ensures)
 
 returns-2 : tie.Need-returns-2
 returns-2 c =
@@ -109,28 +109,28 @@ returns-3 : tie.Need-returns-3
 returns-3 c =
     rw c.before.before.before.enum-told3.given.1
     (c.same-direction.ensures
-    ∙ ap₂ isSameDirection c.before.before.vertex-at3.ensures c.before.end_of_lem.ensures)
+    ∙ ap₂ is_same_direction c.before.before.vertex-at3.ensures c.before.end_of_lem.ensures)
 
 returns-4 : tie.Need-returns-4
 returns-4 c =
     rw c.before.before.before.enum-told4.given.1
     (c.antipodal.ensures
-    ∙ ap₂ isAntipodal c.before.before.vertex-at4.ensures c.before.end-of2.ensures)
+    ∙ ap₂ is_antipodal c.before.before.vertex-at4.ensures c.before.end-of2.ensures)
 
 returns-5 : tie.Need-returns-5
 returns-5 c =
     rw c.before.before.before.before.line.given.1
     (c.on-circle.ensures
-    ∙ ap₂ (onCircle _) c.before.before.vertex-at5.ensures c.before.end-of3.ensures)
+    ∙ ap₂ (on_circle _) c.before.before.vertex-at5.ensures c.before.end-of3.ensures)
 
 returns-6 : tie.Need-returns-6
 returns-6 c =
     rw c.before.before.before.before.line2.given.1
     (c.on-circle2.ensures
-    ∙ ap₂ (onCircle _) c.before.before.vertex-at6.ensures c.before.end-of4.ensures)
+    ∙ ap₂ (on_circle _) c.before.before.vertex-at6.ensures c.before.end-of4.ensures)
 
-pub refuses-spec : {M : Type 1} → statement M
-refuses-spec =
+pub refuses_spec : {M : Type 1} → statement M
+refuses_spec =
     tie.close
     (tie.spec
     enum_told

@@ -13,5 +13,5 @@ returns c = rw (sym c.before.is-null.ensures ∙ c.if1.true)
 returns-2 : tie.Need-returns-2
 returns-2 c = rw (sym c.before.is-null.ensures ∙ c.if1.false)
 
-pub grid-of-second-spec : {M : Type 1} → statement M
-grid-of-second-spec = tie.close (tie.spec is-null-requires returns returns-2)
+pub grid_of_second_spec : {M : Type 1} → statement M
+grid_of_second_spec = tie.close (tie.spec is-null-requires returns returns-2)

@@ -19,5 +19,5 @@ returns c =
 returns-2 : tie.Need-returns-2
 returns-2 c = rw (sym c.before.is_same.ensures ∙ c.if1.false)
 
-pub is-mixed-spec : {M : Type 1} → statement M
-is-mixed-spec = tie.close (tie.spec is-same-requires is-same-requires-2 returns returns-2)
+pub is_mixed_spec : {M : Type 1} → statement M
+is_mixed_spec = tie.close (tie.spec is-same-requires is-same-requires-2 returns returns-2)

@@ -16,5 +16,5 @@ returns c = rw (sym c.before.before.is_same.ensures ∙ c.before.if1.true) c.is-
 returns-2 : tie.Need-returns-2
 returns-2 c = rw (sym c.before.is_same.ensures ∙ c.if1.false)
 
-pub is-mixed-of-three-spec : {M : Type 1} → statement M
-is-mixed-of-three-spec = tie.close (tie.spec is-same-requires is-mixed-requires returns returns-2)
+pub is_mixed_of_three_spec : {M : Type 1} → statement M
+is_mixed_of_three_spec = tie.close (tie.spec is-same-requires is-mixed-requires returns returns-2)

@@ -11,10 +11,10 @@ use mir.Val.{SFits, to_z, of_z}
 use mir.ValLaws.{to_z-of_z}
 use Rattle.answer.proofs.Laws.Chain.{both_true}
 use Rattle.positions.specs.declared.number.Pending.{Pending}
-use Rattle.positions.specs.Number.{isDigit, Small, held, pendingOf, onward, DigitRun}
-use Rattle.positions.proofs.Numbers.{lon-of}
-use Rattle.positions.proofs.RingLaws.{small-next}
-use Rattle.positions.proofs.Runs.{run_none, run-longer}
+use Rattle.positions.specs.Number.{is_digit, Small, held, pending_of, onward, DigitRun}
+use Rattle.positions.proofs.Numbers.{lon_of}
+use Rattle.positions.proofs.RingLaws.{small_next}
+use Rattle.positions.proofs.Runs.{run_none, run_longer}
 use Rattle.positions.proofs.decimals.decimals.Statement.{statement}
 use Rattle.positions.proofs.decimals.decimals.Tie as tie
 
@@ -59,7 +59,7 @@ returns c =
     let v = c.before.before.before.loop in
     let s = c.before.before.before.before in
     let i = s.before.before.args in
-    let e = same i.point (lon-of i.point s.struct_told.given) s.before.before.requires.1 in
+    let e = same i.point (lon_of i.point s.struct_told.given) s.before.before.requires.1 in
     (v.invariant.2 ∙ ap (λ (z : Pending). onward i.text.now i.from z v.k) e, v.invariant.1)
 
 shared-slice-read-next : tie.Need-shared-slice-read-next invariant-loop decreases-loop
@@ -93,9 +93,9 @@ loop-again c =
     let j : v.k + 1 ≡ suc v.k = omega arith in
     let b = get_or l (i.from + v.k) 0 in
     rw j (
-      subst Small (sym c.next.ensures) (small-next v.p b v.invariant.0),
-      run-longer l i.from v.k v.invariant.1 (omega arith) (ltb-true _ _ m.0) m.1,
-      c.next.ensures ∙ ap (λ (z : Pending). pendingOf held z b) v.invariant.2,
+      subst Small (sym c.next.ensures) (small_next v.p b v.invariant.0),
+      run_longer l i.from v.k v.invariant.1 (omega arith) (ltb-true _ _ m.0) m.1,
+      c.next.ensures ∙ ap (λ (z : Pending). pending_of held z b) v.invariant.2,
     )
 
 returns-2 : tie.Need-returns-2 invariant-loop decreases-loop
@@ -105,14 +105,14 @@ returns-2 c =
     let i = s.before.before.args in
     let few = v.invariant.1.few in
     let is : v.k ≡ 7 = omega arith in
-    let e = same i.point (lon-of i.point s.struct_told.given) s.before.before.requires.1 in (
+    let e = same i.point (lon_of i.point s.struct_told.given) s.before.before.requires.1 in (
       v.invariant.2 ∙ ap (λ (z : Pending). onward i.text.now i.from z v.k) e
           ∙ ap (onward i.text.now i.from i.point) is,
       subst (DigitRun i.text.now i.from) is v.invariant.1,
     )
 
-pub decimals-spec : {M : Type 1} → statement M
-decimals-spec =
+pub decimals_spec : {M : Type 1} → statement M
+decimals_spec =
     tie.close
     (tie.spec
     invariant-loop

@@ -17,5 +17,5 @@ returns c = rw (lt-ltb _ _ c.before.before.if1.true) c.is_digit.ensures
 returns-2 : tie.Need-returns-2
 returns-2 c = rw (le-ltb _ _ c.if1.false)
 
-pub is-more-spec : {M : Type 1} → statement M
-is-more-spec = tie.close (tie.spec shared-slice-read-is-digit is-digit-requires returns returns-2)
+pub is_more_spec : {M : Type 1} → statement M
+is_more_spec = tie.close (tie.spec shared-slice-read-is-digit is-digit-requires returns returns-2)

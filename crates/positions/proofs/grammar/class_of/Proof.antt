@@ -4,7 +4,7 @@ use mathlib.Core.Bool.{Bool}
 use Prim.Native.Nat.{ℕ}
 use lib.Dec.{ltb, eqb, ltb→lt, eqb→eq}
 use lib.ListN.{get_or}
-use Rattle.positions.specs.Text.{classTable, class_of}
+use Rattle.positions.specs.Text.{class_table, class_of}
 use Rattle.positions.proofs.Table.{at}
 use borrow.Author.Rules.{rules}
 use Rattle.positions.proofs.grammar.class_of.Statement.{statement}
@@ -20,13 +20,13 @@ element-copy-out-result : tie.Need-element-copy-out-result
 element-copy-out-result c = search rules
 
 returns : tie.Need-returns
-unfolding classTable class_of right
+unfolding class_table class_of right
 returns c =
     let b = c.before.args.b in
     rw c.before.requires (
-      eqb→eq (get_or classTable b 0) (class_of b) (at right classTable tt b (search rules)),
-      ltb→lt (get_or classTable b 0) 9 (at (λ (k : ℕ) (x : ℕ). ltb x 9) classTable tt b (search rules)),
+      eqb→eq (get_or class_table b 0) (class_of b) (at right class_table tt b (search rules)),
+      ltb→lt (get_or class_table b 0) 9 (at (λ (k : ℕ) (x : ℕ). ltb x 9) class_table tt b (search rules)),
     )
 
-pub class-of-spec : {M : Type 1} → statement M
-class-of-spec = tie.close (tie.spec mul-result element-copy-out-result returns)
+pub class_of_spec : {M : Type 1} → statement M
+class_of_spec = tie.close (tie.spec mul-result element-copy-out-result returns)

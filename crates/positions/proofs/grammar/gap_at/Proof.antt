@@ -24,5 +24,5 @@ returns c = (
       (at (λ (k : ℕ) (x : ℕ). leb x 1) gaps tt c.args.at (search rules)),
 )
 
-pub gap-at-spec : {M : Type 1} → statement M
-gap-at-spec = tie.close (tie.spec mul-result array-read-result returns)
+pub gap_at_spec : {M : Type 1} → statement M
+gap_at_spec = tie.close (tie.spec mul-result array-read-result returns)

@@ -15,25 +15,25 @@ same true b = b
 same false true = false
 same false false = true
 
-same-eq : (a b : Bool) → T (same a b) → a ≡ b
+same_eq : (a b : Bool) → T (same a b) → a ≡ b
 unfolding same
-same-eq true true t = refl
-same-eq true false t = absurd t
-same-eq false true t = absurd t
-same-eq false false t = refl
+same_eq true true t = refl
+same_eq true false t = absurd t
+same_eq false true t = absurd t
+same_eq false false t = refl
 
 test : ℕ → ℕ → Bool
 test k x = same (eqb x 256) (eqb k 34 || eqb k 55)
 
-two-places : (k : ℕ) → k < 76 → eqb (get_or words k 0) 256 ≡ (eqb k 34 || eqb k 55)
+two_places : (k : ℕ) → k < 76 → eqb (get_or words k 0) 256 ≡ (eqb k 34 || eqb k 55)
 unfolding words test same
-two-places k h = same-eq (eqb (get_or words k 0) 256) (eqb k 34 || eqb k 55) (at test words tt k h)
+two_places k h = same_eq (eqb (get_or words k 0) 256) (eqb k 34 || eqb k 55) (at test words tt k h)
 
 returns : tie.Need-returns
-returns c = rw (two-places _ c.before.requires, eq-eqb _ _ c.if1.true)
+returns c = rw (two_places _ c.before.requires, eq-eqb _ _ c.if1.true)
 
 returns-2 : tie.Need-returns-2
-returns-2 c = rw (two-places _ c.before.requires, ne_eqb _ _ c.if1.false)
+returns-2 c = rw (two_places _ c.before.requires, ne_eqb _ _ c.if1.false)
 
-pub is-ring-spec : {M : Type 1} → statement M
-is-ring-spec = tie.close (tie.spec returns returns-2)
+pub is_ring_spec : {M : Type 1} → statement M
+is_ring_spec = tie.close (tie.spec returns returns-2)

@@ -65,8 +65,8 @@ returns-4 c = rw (
   ne_eqb _ _ c.if3.false,
 )
 
-pub literal-next-spec : {M : Type 1} → statement M
-literal-next-spec =
+pub literal_next_spec : {M : Type 1} → statement M
+literal_next_spec =
     tie.close
     (tie.spec
     word-at-requires

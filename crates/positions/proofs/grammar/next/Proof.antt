@@ -41,8 +41,8 @@ returns-2 c =
       c.before.class-of2.ensures.0,
     )
 
-pub next-spec : {M : Type 1} → statement M
-next-spec =
+pub next_spec : {M : Type 1} → statement M
+next_spec =
     tie.close
     (tie.spec
     is-ring-requires

@@ -8,5 +8,5 @@ returns : tie.Need-returns
 unfolding rows
 returns c = refl
 
-pub ring-table-spec : {M : Type 1} → statement M
-ring-table-spec = tie.close (tie.spec returns)
+pub ring_table_spec : {M : Type 1} → statement M
+ring_table_spec = tie.close (tie.spec returns)

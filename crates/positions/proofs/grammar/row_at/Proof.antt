@@ -14,5 +14,5 @@ returns : tie.Need-returns
 returns c =
     rw c.before.requires.1
 
-pub row-at-spec : {M : Type 1} → statement M
-row-at-spec = tie.close (tie.spec mul-result element-copy-out-result returns)
+pub row_at_spec : {M : Type 1} → statement M
+row_at_spec = tie.close (tie.spec mul-result element-copy-out-result returns)

@@ -15,5 +15,5 @@ returns : tie.Need-returns
 unfolding words
 returns c = refl
 
-pub word-at-spec : {M : Type 1} → statement M
-word-at-spec = tie.close (tie.spec mul-result array-read-result returns)
+pub word_at_spec : {M : Type 1} → statement M
+word_at_spec = tie.close (tie.spec mul-result array-read-result returns)

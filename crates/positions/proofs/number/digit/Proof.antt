@@ -6,8 +6,8 @@ use mir.ValLaws.{to_z-of_z}
 use Prim.Native.Nat.{◌/◌, ◌≤◌}
 use native.Mathlib.Nat.{mul-le-mul}
 use native.Mathlib.Omega.{arith}
-use Rattle.positions.specs.Number.{digitOf}
-use Rattle.positions.proofs.Numbers.{lon-of}
+use Rattle.positions.specs.Number.{digit_of}
+use Rattle.positions.proofs.Numbers.{lon_of}
 use borrow.Author.Rules.{rules}
 use Rattle.positions.proofs.number.digit.Statement.{statement}
 use Rattle.positions.proofs.number.digit.Tie as tie
@@ -25,10 +25,10 @@ capped-requires : tie.Need-capped-requires
 capped-requires c κs = search rules
 
 returns : tie.Need-returns
-unfolding digitOf
+unfolding digit_of
 returns c =
     rw (
-      to_z-of_z w32 _ (lon-of c.before.before.before.before.args.p c.struct_told.given),
+      to_z-of_z w32 _ (lon_of c.before.before.before.before.args.p c.struct_told.given),
       c.before.capped.ensures,
       eq-eqb _ _ c.before.before.before.if1.true,
     )
@@ -47,16 +47,16 @@ capped-requires-2 : tie.Need-capped-requires-2
 capped-requires-2 c κs = search rules
 
 returns-2 : tie.Need-returns-2
-unfolding digitOf
+unfolding digit_of
 returns-2 c =
     rw (
-      to_z-of_z w32 _ (lon-of c.before.before.before.before.args.p c.struct-told2.given),
+      to_z-of_z w32 _ (lon_of c.before.before.before.before.args.p c.struct-told2.given),
       c.before.capped2.ensures,
       ne_eqb _ _ c.before.before.before.if1.false,
     )
 
-pub digit-spec : {M : Type 1} → statement M
-digit-spec =
+pub digit_spec : {M : Type 1} → statement M
+digit_spec =
     tie.close
     (tie.spec
     mul-capped

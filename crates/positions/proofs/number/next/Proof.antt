@@ -5,8 +5,8 @@ use mir.Syntax.{w32, w64}
 use mir.ValLaws.{to_z-of_z}
 use native.Mathlib.Omega.{arith}
 use borrow.Author.Rules.{sfits_of}
-use Rattle.positions.specs.Number.{pendingOf}
-use Rattle.positions.proofs.Numbers.{lon-of, digit-range}
+use Rattle.positions.specs.Number.{pending_of}
+use Rattle.positions.proofs.Numbers.{lon_of, digit_range}
 use borrow.Author.Rules.{rules}
 use Rattle.positions.proofs.number.next.Statement.{statement}
 use Rattle.positions.proofs.number.next.Tie as tie
@@ -19,15 +19,15 @@ wide-requires c κs = search rules
 
 sub-digit : tie.Need-overflow-sub-digit
 sub-digit c =
-    rw c.wide.ensures (digit-range _ (sym c.before.before.is_digit.ensures ∙ c.before.if1.true)).0
+    rw c.wide.ensures (digit_range _ (sym c.before.before.is_digit.ensures ∙ c.before.if1.true)).0
 
 digit-requires : tie.Need-digit-requires
 digit-requires c κs =
-    let h = digit-range _ (sym c.before.before.is_digit.ensures ∙ c.before.if1.true) in let e =
+    let h = digit_range _ (sym c.before.before.is_digit.ensures ∙ c.before.if1.true) in let e =
     c.wide.ensures in (c.before.before.before.requires, omega arith)
 
 returns : tie.Need-returns
-unfolding pendingOf
+unfolding pending_of
 returns c =
     c.digit.ensures ∙ rw (
       sym c.before.before.before.is_digit.ensures ∙ c.before.before.if1.true,
@@ -35,20 +35,20 @@ returns c =
     )
 
 returns-2 : tie.Need-returns-2
-unfolding pendingOf
+unfolding pending_of
 returns-2 c =
     rw (
-      to_z-of_z w32 _ (lon-of c.before.before.before.before.args.p c.struct_told.given),
+      to_z-of_z w32 _ (lon_of c.before.before.before.before.args.p c.struct_told.given),
       sym
           c.before.before.before.is_digit.ensures ∙ c.before.before.if1.false,
       eq-eqb _ _ c.before.if2.true,
     )
 
 returns-3 : tie.Need-returns-3
-unfolding pendingOf
+unfolding pending_of
 returns-3 c =
     rw (
-      to_z-of_z w32 _ (lon-of c.before.before.before.before.before.args.p c.struct-told2.given),
+      to_z-of_z w32 _ (lon_of c.before.before.before.before.before.args.p c.struct-told2.given),
       sym
           c.before.before.before.before.is_digit.ensures ∙ c.before.before.before.if1.false,
       ne_eqb _ _
@@ -60,7 +60,7 @@ signed-requires : tie.Need-signed-requires
 signed-requires c κs = search rules
 
 returns-4 : tie.Need-returns-4
-unfolding pendingOf
+unfolding pending_of
 returns-4 c =
     rw (
       to_z-of_z w32 _ (sfits_of c.signed.type-inv),
@@ -74,7 +74,7 @@ returns-4 c =
     )
 
 returns-5 : tie.Need-returns-5
-unfolding pendingOf
+unfolding pending_of
 returns-5 c =
     rw (
       sym c.before.before.before.before.is_digit.ensures ∙ c.before.before.before.if1.false,
@@ -84,8 +84,8 @@ returns-5 c =
       ne_eqb _ _ c.if4.false,
     )
 
-pub next-spec : {M : Type 1} → statement M
-next-spec =
+pub next_spec : {M : Type 1} → statement M
+next_spec =
     tie.close
     (tie.spec
     is-digit-requires

@@ -1,7 +1,7 @@
 -- `ring::added` meets its contract.
 use mathlib.Core.Path.{◌≡◌, refl, sym, ap, ◌∙◌}
 use borrow.Author.Tests.{eq-eqb, ne_eqb, le-leb, lt-leb, not-true, not-false}
-use Rattle.positions.specs.Ring.{addedOf}
+use Rattle.positions.specs.Ring.{added_of}
 use borrow.Author.Rules.{rules}
 use Rattle.positions.proofs.ring.added.Statement.{statement}
 use Rattle.positions.proofs.ring.added.Tie as tie
@@ -13,7 +13,7 @@ earliest-requires : tie.Need-earliest-requires
 earliest-requires c κs = search rules
 
 returns : tie.Need-returns
-unfolding addedOf
+unfolding added_of
 returns c =
     rw (eq-eqb _ _ c.if1.true, c.before.earliest.ensures, c.before.before.is-outside.ensures)
 
@@ -30,7 +30,7 @@ add-t12 : tie.Need-overflow-add-t12
 add-t12 c = search rules
 
 returns-2 : tie.Need-returns-2
-unfolding addedOf
+unfolding added_of
 returns-2 c =
     rw (
       ne_eqb _ _ c.before.before.before.before.if1.false,
@@ -40,8 +40,8 @@ returns-2 c =
       c.before.is-distant.ensures,
     )
 
-pub added-spec : {M : Type 1} → statement M
-added-spec =
+pub added_spec : {M : Type 1} → statement M
+added_spec =
     tie.close
     (tie.spec
     is-outside-requires

@@ -27,5 +27,5 @@ returns c =
     let b = widened _ _ f.b c.wide2.type-inv c.wide2.ensures in
     rw (a, b) (to_z-of_z w64 _ (difference _ _ f.a f.b))
 
-pub difference-spec : {M : Type 1} → statement M
-difference-spec = tie.close (tie.spec wide-requires wide-requires-2 sub-result returns)
+pub difference_spec : {M : Type 1} → statement M
+difference_spec = tie.close (tie.spec wide-requires wide-requires-2 sub-result returns)

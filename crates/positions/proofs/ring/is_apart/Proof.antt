@@ -1,6 +1,6 @@
 -- `ring::is_apart` meets its contract.
 use mathlib.Core.Path.{◌≡◌}
-use Rattle.positions.proofs.Numbers.{difference-same}
+use Rattle.positions.proofs.Numbers.{difference_same}
 use borrow.Author.Rules.{rules}
 use Rattle.positions.proofs.ring.is_apart.Statement.{statement}
 use Rattle.positions.proofs.ring.is_apart.Tie as tie
@@ -15,7 +15,7 @@ returns : tie.Need-returns
 returns c =
     let f = c.before.before.ranges in
     let d = c.before.difference in
-    rw (difference-same _ _ _ f.a f.b d.type-inv d.ensures) at c.is-past.ensures
+    rw (difference_same _ _ _ f.a f.b d.type-inv d.ensures) at c.is-past.ensures
 
-pub is-apart-spec : {M : Type 1} → statement M
-is-apart-spec = tie.close (tie.spec difference-requires is-past-requires returns)
+pub is_apart_spec : {M : Type 1} → statement M
+is_apart_spec = tie.close (tie.spec difference-requires is-past-requires returns)

@@ -1,6 +1,6 @@
 -- `ring::is_equal` meets its contract.
 use mathlib.Core.Path.{◌≡◌}
-use Rattle.positions.proofs.Numbers.{difference-same}
+use Rattle.positions.proofs.Numbers.{difference_same}
 use borrow.Author.Rules.{rules}
 use Rattle.positions.proofs.ring.is_equal.Statement.{statement}
 use Rattle.positions.proofs.ring.is_equal.Tie as tie
@@ -15,7 +15,7 @@ returns : tie.Need-returns
 returns c =
     let f = c.before.before.ranges in
     let d = c.before.difference in
-    rw (difference-same _ _ _ f.a f.b d.type-inv d.ensures) at c.is_zero.ensures
+    rw (difference_same _ _ _ f.a f.b d.type-inv d.ensures) at c.is_zero.ensures
 
-pub is-equal-spec : {M : Type 1} → statement M
-is-equal-spec = tie.close (tie.spec difference-requires is-zero-requires returns)
+pub is_equal_spec : {M : Type 1} → statement M
+is_equal_spec = tie.close (tie.spec difference-requires is-zero-requires returns)

@@ -1,7 +1,7 @@
 -- `ring::ring_check` meets its contract.
 use mathlib.Core.Path.{◌≡◌, refl, sym, ap, ◌∙◌}
 use borrow.Author.Tests.{eq-eqb, ne_eqb, le-leb, lt-leb, not-true, not-false}
-use Rattle.positions.specs.Ring.{checkOf}
+use Rattle.positions.specs.Ring.{check_of}
 use borrow.Author.Rules.{rules}
 use Rattle.positions.proofs.ring.ring_check.Statement.{statement}
 use Rattle.positions.proofs.ring.ring_check.Tie as tie
@@ -10,7 +10,7 @@ enum-known-outside : tie.Need-enum-known-outside
 enum-known-outside c = search rules
 
 returns : tie.Need-returns
-unfolding checkOf
+unfolding check_of
 returns c =
     rw c.before.outside.given.1
 
@@ -18,7 +18,7 @@ enum_told : tie.Need-enum-told
 enum_told c = search rules
 
 returns-2 : tie.Need-returns-2
-unfolding checkOf
+unfolding check_of
 returns-2 c =
     rw (c.before.before.enum_told.given.1, lt-leb _ _ c.if1.true)
 
@@ -26,7 +26,7 @@ is-same-requires : tie.Need-is-same-requires
 is-same-requires c κs = search rules
 
 returns-3 : tie.Need-returns-3
-unfolding checkOf
+unfolding check_of
 returns-3 c =
     rw (
       c.before.before.before.before.before.before.enum_told.given.1,
@@ -39,7 +39,7 @@ enum-known-distant : tie.Need-enum-known-distant
 enum-known-distant c = search rules
 
 returns-4 : tie.Need-returns-4
-unfolding checkOf
+unfolding check_of
 returns-4 c =
     rw (
       c.before.before.before.before.before.before.before.before.before.enum_told.given.1,
@@ -54,7 +54,7 @@ enum-told-2 : tie.Need-enum-told-2
 enum-told-2 c = search rules
 
 returns-5 : tie.Need-returns-5
-unfolding checkOf
+unfolding check_of
 returns-5 c =
     rw (
       c.before.before.before.before.before.before.before.before.enum_told.given.1,
@@ -65,8 +65,8 @@ returns-5 c =
       c.enum-told2.given.1,
     )
 
-pub ring-check-spec : {M : Type 1} → statement M
-ring-check-spec =
+pub ring_check_spec : {M : Type 1} → statement M
+ring_check_spec =
     tie.close
     (tie.spec
     enum-known-outside

@@ -6,22 +6,22 @@ use native.Mathlib.Omega.{arith}
 use Prim.Native.Nat.{ℕ, ◌-◌, ◌≤◌, ◌<◌}
 use lib.IntN.{ℤ}
 use lib.ListN.{length, length-replicate, get_or-replicate}
-use Rattle.polygon.specs.Vertices.{vertexCount}
-use Rattle.polygon.specs.Border.{isBorder}
-use Rattle.polygon.specs.Verdict.{isOnBorder, boundaryOf}
+use Rattle.polygon.specs.Vertices.{vertices_count}
+use Rattle.polygon.specs.Border.{is_border}
+use Rattle.polygon.specs.Verdict.{is_on_border, boundary_of}
 use Rattle.search.specs.Border.{Settled}
 use Rattle.search.specs.Walk.{NoneBefore}
 use Rattle.search.proofs.Laws.Arc.{reference}
-use Rattle.search.proofs.Laws.Settled.{settled-start, settled-past, settled-none, first-at}
+use Rattle.search.proofs.Laws.Settled.{settled_start, settled_past, settled_none, first_at}
 use Rattle.search.proofs.border.first_border.Statement.{statement}
 use Rattle.search.proofs.border.first_border.Tie as tie
 
 abbrev invariant-loop : tie.invariant-loop
 invariant-loop vertices boxes arc n marks₀ i₀ marks i =
-    (i ≤ vertexCount vertices) × (length marks ≡ 4096) × Settled vertices arc.to i marks
+    (i ≤ vertices_count vertices) × (length marks ≡ 4096) × Settled vertices arc.to i marks
 
 abbrev decreases-loop : tie.decreases-loop
-decreases-loop vertices boxes arc n marks₀ i₀ marks i = vertexCount vertices - i
+decreases-loop vertices boxes arc n marks₀ i₀ marks i = vertices_count vertices - i
 
 loop-holds : tie.Need-loop-init invariant-loop decreases-loop
 loop-holds c =
@@ -30,7 +30,7 @@ loop-holds c =
     let all = length-replicate 4096 none in (
       omega arith,
       all,
-      settled-start (omega (arith, most, all)) (λ j h. get_or-replicate 4096 j 0 0 (omega (arith, h, most))),
+      settled_start (omega (arith, most, all)) (λ j h. get_or-replicate 4096 j 0 0 (omega (arith, h, most))),
     )
 
 next-held-requires : tie.Need-next-held-requires invariant-loop decreases-loop
@@ -51,14 +51,14 @@ module _ (c : tie.After-next-held invariant-loop decreases-loop) where
   edge = c.next-held.result
 
   here : Settled vs s.args.arc.to edge at.loop.marks
-  here = settled-past at.loop.inv.2 c.next-held.ensures
+  here = settled_past at.loop.inv.2 c.next-held.ensures
 
 returns : tie.Need-returns invariant-loop decreases-loop
-unfolding boundaryOf
+unfolding boundary_of
 returns c =
     let n = c.before in
-    let last : edge n ≡ vertexCount (vs n) = omega (arith, c.if1.true, n.next-held.ensures.within) in
-    sym (subst (λ k. NoneBefore (vs n) (s n).args.arc.to k) last (settled-none (here n) (omega (arith, last))))
+    let last : edge n ≡ vertices_count (vs n) = omega (arith, c.if1.true, n.next-held.ensures.within) in
+    sym (subst (λ k. NoneBefore (vs n) (s n).args.arc.to k) last (settled_none (here n) (omega (arith, last))))
 
 slice-aggregate-is-new-border : tie.Need-slice-aggregate-is-new-border invariant-loop decreases-loop
 slice-aggregate-is-new-border c = sym (at c.before.before).loop.invariant.1
@@ -74,18 +74,18 @@ module _ (c : tie.After-is-new-border invariant-loop decreases-loop) where
   abbrev next : tie.After-next-held invariant-loop decreases-loop
   next = c.before.before.before
 
-  more : edge next < vertexCount (vs next)
+  more : edge next < vertices_count (vs next)
   more = c.before.before.if1.false
 
 returns-2 : tie.Need-returns-2 invariant-loop decreases-loop
-unfolding boundaryOf
+unfolding boundary_of
 returns-2 c =
     let b = c.before.before in
     let n = next b in
     let P = (s n).args.arc.to in
-    sym (first-at (isOnBorder (vs n) P) (edge n) (vertexCount (vs n))
-    (settled-none (here n) (omega (arith, more b))) (more b)
-    (ap (λ t. t && isBorder (vs n) (edge n)) (n.next-held.ensures.held (more b))
+    sym (first_at (is_on_border (vs n) P) (edge n) (vertices_count (vs n))
+    (settled_none (here n) (omega (arith, more b))) (more b)
+    (ap (λ t. t && is_border (vs n) (edge n)) (n.next-held.ensures.held (more b))
     ∙ sym b.is-new-border.ensures.0 ∙ c.if2.true))
 
 add-i : tie.Need-overflow-add-i invariant-loop decreases-loop
@@ -104,16 +104,16 @@ loop-again c =
     (omega (arith, more b), c.before.marks2.given, b.is-new-border.ensures.1 c.if2.false)
 
 returns-3 : tie.Need-returns-3 invariant-loop decreases-loop
-unfolding boundaryOf
+unfolding boundary_of
 returns-3 c =
     let l = c.before in
-    let last : l.loop.i ≡ vertexCount l.before.args.vertices.now =
+    let last : l.loop.i ≡ vertices_count l.before.args.vertices.now =
     omega (arith, c.loop-test.false, l.loop.invariant.0) in
     sym (subst (λ k. NoneBefore l.before.args.vertices.now l.before.args.arc.to k) last
-    (settled-none l.loop.invariant.2 l.loop.invariant.0))
+    (settled_none l.loop.invariant.2 l.loop.invariant.0))
 
-pub first-border-spec : {M : Type 1} → statement M
-first-border-spec =
+pub first_border_spec : {M : Type 1} → statement M
+first_border_spec =
     tie.close
     (tie.spec
     invariant-loop

@@ -2,9 +2,9 @@
 use native.Mathlib.Omega.{arith}
 use borrow.Author.Rules.{rules}
 use Prim.Native.Nat.{◌/◌, ◌≤◌}
-use Rattle.polygon.specs.Vertices.{vertexCount}
-use Rattle.search.specs.Spans.{runStart}
-use Rattle.search.proofs.Laws.Settled.{class-border, class-marked}
+use Rattle.polygon.specs.Vertices.{vertices_count}
+use Rattle.search.specs.Spans.{run_start}
+use Rattle.search.proofs.Laws.Settled.{class_border, class_marked}
 use Rattle.search.proofs.border.is_border.Statement.{statement}
 use Rattle.search.proofs.border.is_border.Tie as tie
 
@@ -19,8 +19,8 @@ returns c =
     let s = c.before.before.before.before.before in
     let e = c.before.before.mark-class.ensures in
     let i = s.args.i in
-    let below : runStart (vertexCount s.args.vertices.now) (i / 32) ≤ i = omega arith in
-    (class-border s.requires.3 below s.requires.1 e.0, class-marked s.requires.3 below e.1)
+    let below : run_start (vertices_count s.args.vertices.now) (i / 32) ≤ i = omega arith in
+    (class_border s.requires.3 below s.requires.1 e.0, class_marked s.requires.3 below e.1)
 
-pub is-border-spec : {M : Type 1} → statement M
-is-border-spec = tie.close (tie.spec mark-class-requires same_length returns)
+pub is_border_spec : {M : Type 1} → statement M
+is_border_spec = tie.close (tie.spec mark-class-requires same_length returns)

@@ -2,7 +2,7 @@
 use mathlib.Core.Path.{sym, ◌∙◌}
 use borrow.Author.Rules.{rules}
 use Rattle.search.proofs.Laws.Arc.{reference}
-use Rattle.search.proofs.Laws.Settled.{settled-marked, settled-foremost, settled-class}
+use Rattle.search.proofs.Laws.Settled.{settled_marked, settled_foremost, settled_class}
 use Rattle.search.proofs.border.is_new_border.Statement.{statement}
 use Rattle.search.proofs.border.is_new_border.Tie as tie
 
@@ -13,7 +13,7 @@ returns : tie.Need-returns
 returns c =
     let s = c.before.before.before in
     let own = c.if1.true in
-    (sym (s.requires.3.unbordered s.args.i s.requires.1 own), λ e. settled-marked s.requires.3 own)
+    (sym (s.requires.3.unbordered s.args.i s.requires.1 own), λ e. settled_marked s.requires.3 own)
 
 is-border-requires : tie.Need-is-border-requires
 is-border-requires c κs =
@@ -21,7 +21,7 @@ is-border-requires c κs =
       s.requires.0,
       s.requires.1,
       s.requires.2,
-      settled-foremost s.requires.3 s.args.arc.from (reference s.requires.0.aimed).off-circle s.requires.1
+      settled_foremost s.requires.3 s.args.arc.from (reference s.requires.0.aimed).off_circle s.requires.1
           s.requires.2 c.before.if1.false,
     )
 
@@ -34,9 +34,9 @@ returns-2 c =
     let s = b.before.before.before.before.before in
     let e = b.is-border.ensures in (
       e.0,
-      λ none. settled-class s.requires.3 s.args.arc.from (reference s.requires.0.aimed).off-circle s.requires.1
+      λ none. settled_class s.requires.3 s.args.arc.from (reference s.requires.0.aimed).off_circle s.requires.1
           s.requires.2 e.1 (sym e.0 ∙ none),
     )
 
-pub is-new-border-spec : {M : Type 1} → statement M
-is-new-border-spec = tie.close (tie.spec slice-read-if1 returns is-border-requires same_length returns-2)
+pub is_new_border_spec : {M : Type 1} → statement M
+is_new_border_spec = tie.close (tie.spec slice-read-if1 returns is-border-requires same_length returns-2)

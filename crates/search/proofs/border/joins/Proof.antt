@@ -3,9 +3,9 @@ use mathlib.Core.Path.{◌∙◌, ap}
 use mathlib.Core.Bool.{◌&&◌, ◌||◌}
 use borrow.Author.Rules.{rules}
 use Rattle.sphere.specs.Point.{fine, Within}
-use Rattle.sphere.specs.Direction.{isSameDirection}
-use Rattle.polygon.specs.Border.{joinsOf}
-use Rattle.polygon.proofs.Laws.Edges.{end-within}
+use Rattle.sphere.specs.Direction.{is_same_direction}
+use Rattle.polygon.specs.Border.{joins_of}
+use Rattle.polygon.proofs.Laws.Edges.{end_within}
 use Rattle.search.proofs.border.joins.Statement.{statement}
 use Rattle.search.proofs.border.joins.Tie as tie
 
@@ -24,7 +24,7 @@ module _ (c : tie.After-end-of) where
   A = rw c.before.vertex-at.ensures (s.pre.0.each s.args.j s.pre.1)
 
   B : Within fine c.end_of_lem.result
-  B = end-within s.pre.0 s.pre.1 c.end_of_lem.ensures
+  B = end_within s.pre.0 s.pre.1 c.end_of_lem.ensures
 
 same-direction-requires : tie.Need-same-direction-requires
 same-direction-requires c κs = ((s c).requires.2, A c)
@@ -39,20 +39,20 @@ same-direction-requires-4 : tie.Need-same-direction-requires-4
 same-direction-requires-4 c κs = let e = c.before.before.before in ((s e).requires.3, A e)
 
 returns : tie.Need-returns
-unfolding joinsOf
+unfolding joins_of
 returns c =
     let e = c.before.before.before.before in
     let v = (s e).args in
     let a = e.before.vertex-at.ensures in
     let b = e.end_of_lem.ensures in
-    let ca = c.before.before.before.same-direction.ensures ∙ ap (isSameDirection v.c) a in
-    let db = c.before.before.same-direction2.ensures ∙ ap (isSameDirection v.d) b in
-    let cb = c.before.same-direction3.ensures ∙ ap (isSameDirection v.c) b in
-    let da = c.same-direction4.ensures ∙ ap (isSameDirection v.d) a in
+    let ca = c.before.before.before.same-direction.ensures ∙ ap (is_same_direction v.c) a in
+    let db = c.before.before.same-direction2.ensures ∙ ap (is_same_direction v.d) b in
+    let cb = c.before.same-direction3.ensures ∙ ap (is_same_direction v.c) b in
+    let da = c.same-direction4.ensures ∙ ap (is_same_direction v.d) a in
     λ i. ((ca i && db i) || (cb i && da i))
 
-pub joins-spec : {M : Type 1} → statement M
-joins-spec =
+pub joins_spec : {M : Type 1} → statement M
+joins_spec =
     tie.close
     (tie.spec
     vertex-at-requires

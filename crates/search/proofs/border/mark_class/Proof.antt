@@ -6,22 +6,22 @@ use mathlib.Core.List.{List}
 use Prim.Native.Nat.{ℕ, ◌+◌, ◌-◌, ◌/◌, ◌≤◌, ◌<◌}
 use native.Mathlib.Omega.{arith}
 use lib.IntN.{ℤ}
-use Rattle.answer.specs.Search.{countFrom}
-use Rattle.polygon.specs.Vertices.{vertexCount, start_of, end_of}
-use Rattle.polygon.specs.Border.{isCoincident}
-use Rattle.polygon.proofs.Laws.Checks.{gridded-fine}
-use Rattle.polygon.proofs.Laws.Edges.{end-within}
+use Rattle.answer.specs.Search.{count_from}
+use Rattle.polygon.specs.Vertices.{vertices_count, start_of, end_of}
+use Rattle.polygon.specs.Border.{is_coincident}
+use Rattle.polygon.proofs.Laws.Checks.{gridded_fine}
+use Rattle.polygon.proofs.Laws.Edges.{end_within}
 use Rattle.corridors.specs.Marked.{Marked}
-use Rattle.corridors.proofs.Laws.Marked.{marked-none, marked_append}
+use Rattle.corridors.proofs.Laws.Marked.{marked_none, marked_append}
 use Rattle.search.specs.declared.spans.Span.{Span}
-use Rattle.search.specs.Boxes.{runCount}
-use Rattle.search.specs.Scan.{isOneSided}
-use Rattle.search.specs.Spans.{runStart}
+use Rattle.search.specs.Boxes.{run_count}
+use Rattle.search.specs.Scan.{is_one_sided}
+use Rattle.search.specs.Spans.{run_start}
 use Rattle.search.proofs.Laws.Arc.{reference}
-use Rattle.search.proofs.Laws.Coincident.{one-sided-not-coincident}
-use Rattle.search.proofs.Laws.Counted.{Counted, counted_start, counted-block, counted-past, counted-few}
-use Rattle.search.proofs.Laws.Runs.{run_of, runs-few, start-runs}
-use Rattle.search.proofs.Laws.Spans.{spanned-within}
+use Rattle.search.proofs.Laws.Coincident.{one_sided_not_coincident}
+use Rattle.search.proofs.Laws.Counted.{Counted, counted_start, counted_block, counted_past, counted_few}
+use Rattle.search.proofs.Laws.Runs.{run_of, runs_few, start_runs}
+use Rattle.search.proofs.Laws.Spans.{spanned_within}
 use Rattle.search.proofs.border.mark_class.Statement.{statement}
 use Rattle.search.proofs.border.mark_class.Tie as tie
 
@@ -36,51 +36,51 @@ module _ {test : ℕ → Bool} {from : ℕ} {marks : List ℕ} {j count : ℕ} {
   gap : (to : ℕ) → j ≤ to → ((k : ℕ) → j ≤ k → k < to → test k ≡ false) → Reached test from marks to count now
   gap to h none = record {
     after = omega (arith, r.after);
-    counted = counted-past test r.after r.counted to h none;
-    marked = marked_append r.after h r.marked (marked-none none);
+    counted = counted_past test r.after r.counted to h none;
+    marked = marked_append r.after h r.marked (marked_none none);
   }
 
   -- by the same test
-  block : {own : ℕ → Bool} → own ≡ test → {to k : ℕ} {next : List ℕ} → j ≤ to → k ≡ countFrom own j (to - j) →
+  block : {own : ℕ → Bool} → own ≡ test → {to k : ℕ} {next : List ℕ} → j ≤ to → k ≡ count_from own j (to - j) →
       Marked own j to now next → Reached test from marks to (count + k) next
   block {own} same {to} {k} {next} h e m =
       let there : j + (to - j) ≡ to = omega arith in
       record {
         after = omega (arith, r.after);
         counted = subst (λ i. Counted test from i (count + k)) there
-            (counted-block test r.after r.counted (to - j) (e ∙ ap (λ t. countFrom t j (to - j)) same));
+            (counted_block test r.after r.counted (to - j) (e ∙ ap (λ t. count_from t j (to - j)) same));
         marked = marked_append r.after h r.marked (subst (λ t. Marked t j to now next) same m);
       }
 
 -- Before run r, of the edges from the run of edge i on.
 record Come (vs : List ℤ) (i : ℕ) (marks now : List ℕ) (r count : ℕ) : Type 0 where
-  before : r ≤ runCount (vertexCount vs) + 1
-  reached : Reached (isCoincident vs (start_of vs i) (end_of vs i)) (runStart (vertexCount vs) (i / 32)) marks
-      (runStart (vertexCount vs) r) count now
+  before : r ≤ run_count (vertices_count vs) + 1
+  reached : Reached (is_coincident vs (start_of vs i) (end_of vs i)) (run_start (vertices_count vs) (i / 32)) marks
+      (run_start (vertices_count vs) r) count now
 
 abbrev invariant-loop : tie.invariant-loop
 invariant-loop vertices boxes arc i marks₀ c d r₀ count₀ marks r count = Come vertices i marks₀ marks r count
 
 abbrev decreases-loop : tie.decreases-loop
-decreases-loop vertices boxes arc i marks₀ c d r₀ count₀ marks r count = runCount (vertexCount vertices) - r
+decreases-loop vertices boxes arc i marks₀ c d r₀ count₀ marks r count = run_count (vertices_count vertices) - r
 
 module _ (s : tie.Start invariant-loop decreases-loop) where
   abbrev vs : List ℤ
   vs = s.args.vertices.now
 
   abbrev n : ℕ
-  n = vertexCount vs
+  n = vertices_count vs
 
   abbrev test : ℕ → Bool
-  test = isCoincident vs (start_of vs s.args.i) (end_of vs s.args.i)
+  test = is_coincident vs (start_of vs s.args.i) (end_of vs s.args.i)
 
   most : n ≤ 4096
   most = (reference s.pre.0.aimed).accepted.listed.most
 
   -- an edge on one side is not coincident with edge i
-  apart : (j : ℕ) → j < n → isOneSided vs s.args.arc.from s.args.arc.to j ≡ true → test j ≡ false
+  apart : (j : ℕ) → j < n → is_one_sided vs s.args.arc.from s.args.arc.to j ≡ true → test j ≡ false
   apart =
-      one-sided-not-coincident vs s.args.arc.from s.args.arc.to (reference s.pre.0.aimed).off-circle
+      one_sided_not_coincident vs s.args.arc.from s.args.arc.to (reference s.pre.0.aimed).off_circle
       s.args.i s.pre.1 s.pre.2
 
 vertex-at-requires : tie.Need-vertex-at-requires invariant-loop decreases-loop
@@ -97,14 +97,14 @@ loop-holds c =
       reached = record {
         after = omega arith;
         counted = counted_start _ _;
-        marked = marked-none (λ j h l. absurd (omega (arith, h, l)));
+        marked = marked_none (λ j h l. absurd (omega (arith, h, l)));
       };
     }
 
 next-span-requires : tie.Need-next-span-requires invariant-loop decreases-loop
 next-span-requires c κs =
     let s = c.before.before.before.before in
-    (s.requires.0, omega (arith, c.loop.invariant.before, runs-few (n s) (most s)))
+    (s.requires.0, omega (arith, c.loop.invariant.before, runs_few (n s) (most s)))
 
 -- The next span, and what was reached before it.
 module _ (c : tie.After-next-span invariant-loop decreases-loop) where
@@ -117,12 +117,12 @@ module _ (c : tie.After-next-span invariant-loop decreases-loop) where
   abbrev span : Span
   span = c.next-span.result
 
-  here : Reached (test start) (runStart (n start) (start.args.i / 32)) start.args.marks.now span.from
+  here : Reached (test start) (run_start (n start) (start.args.i / 32)) start.args.marks.now span.from
       at.loop.count at.loop.marks
   here =
       let p = c.next-span.ensures in
       gap at.loop.inv.reached span.from p.after
-      (λ j h l. apart start j (omega (arith, l, spanned-within p)) (p.left-before j h l))
+      (λ j h l. apart start j (omega (arith, l, spanned_within p)) (p.left_before j h l))
 
 mark-edges-requires : tie.Need-mark-edges-requires invariant-loop decreases-loop
 mark-edges-requires c κs =
@@ -130,12 +130,12 @@ mark-edges-requires c κs =
     let s = start a in
     let e = (at a).before in
     let r = (reference s.pre.0.aimed).accepted in
-    let grid = gridded-fine s.args.arc.plane.grid r.gridded in (
+    let grid = gridded_fine s.args.arc.plane.grid r.gridded in (
       (
         r.listed,
         grid,
         rw e.before.vertex-at.ensures (grid.each s.args.i s.pre.1),
-        end-within grid s.pre.1 e.end_of_lem.ensures,
+        end_within grid s.pre.1 e.end_of_lem.ensures,
       ),
       (c.before.if1.false, a.next-span.ensures.within),
     )
@@ -152,16 +152,16 @@ module _ (c : tie.After-slice-known2 invariant-loop decreases-loop) where
   some = marked.before.before.if1.left
 
   -- by the ends of edge i, as the locals hold them
-  own : isCoincident (vs (start a)) (at a).before.before.vertex-at.result (at a).before.end_of_lem.result
+  own : is_coincident (vs (start a)) (at a).before.before.vertex-at.result (at a).before.end_of_lem.result
       ≡ test (start a)
-  own = λ j. isCoincident (vs (start a)) ((at a).before.before.vertex-at.ensures j) ((at a).before.end_of_lem.ensures j)
+  own = λ j. is_coincident (vs (start a)) ((at a).before.before.vertex-at.ensures j) ((at a).before.end_of_lem.ensures j)
 
 add-count : tie.Need-overflow-add-count invariant-loop decreases-loop
 add-count c =
     let e = (marked c).mark-edges.ensures in
     omega (
       arith,
-      counted-few _ (block (here (a c)) (own c) (omega (arith, some c)) e.0 e.1).counted,
+      counted_few _ (block (here (a c)) (own c) (omega (arith, some c)) e.0 e.1).counted,
       (a c).next-span.ensures.within,
       most (start (a c)),
     )
@@ -170,8 +170,8 @@ loop-less : tie.Need-loop-smaller invariant-loop decreases-loop
 loop-less c =
     let p = (a c).next-span.ensures in
     let s = start (a c) in
-    let more : runStart (n s) (at (a c)).loop.r < n s = omega (arith, p.after, some c, p.within) in
-    omega (arith, (p.onward (some c)).0, start-runs (n s) (at (a c)).loop.r more)
+    let more : run_start (n s) (at (a c)).loop.r < n s = omega (arith, p.after, some c, p.within) in
+    omega (arith, (p.onward (some c)).0, start_runs (n s) (at (a c)).loop.r more)
 
 loop-again : tie.Need-loop-preserved invariant-loop decreases-loop
 loop-again c =
@@ -181,7 +181,7 @@ loop-again c =
     record {
       before = (p.onward (some c)).1;
       reached = gap (block (here (a c)) (own c) (omega (arith, some c)) e.0 e.1)
-          (runStart (n s) (span (a c)).next) p.behind
+          (run_start (n s) (span (a c)).next) p.behind
           (λ j h l. apart s j (omega (arith, l)) (p.left_after j h l));
     }
 
@@ -194,14 +194,14 @@ returns c =
     let f = c.before.before in
     let last = f.next-span.ensures.last c.if1.true in
     let all = here f in (
-      sym (subst (λ i. Counted (test (start f)) (runStart (n (start f)) ((start f).args.i / 32)) i (at f).loop.count)
+      sym (subst (λ i. Counted (test (start f)) (run_start (n (start f)) ((start f).args.i / 32)) i (at f).loop.count)
           last all.counted).before,
-      subst (λ i. Marked (test (start f)) (runStart (n (start f)) ((start f).args.i / 32)) i (start f).args.marks.now
+      subst (λ i. Marked (test (start f)) (run_start (n (start f)) ((start f).args.i / 32)) i (start f).args.marks.now
           (at f).loop.marks) last all.marked,
     )
 
-pub mark-class-spec : {M : Type 1} → statement M
-mark-class-spec =
+pub mark_class_spec : {M : Type 1} → statement M
+mark_class_spec =
     tie.close
     (tie.spec
     invariant-loop

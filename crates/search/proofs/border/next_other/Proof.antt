@@ -8,11 +8,11 @@ use Prim.Native.Nat.{ℕ, ◌+◌, ◌-◌, ◌≤◌, ◌<◌}
 use lib.Dec.{ltb}
 use lib.IntN.{ℤ}
 use Rattle.sphere.specs.declared.point.Point.{Point}
-use Rattle.polygon.specs.Vertices.{vertexCount, start_of, end_of}
-use Rattle.polygon.specs.Border.{isCoincident}
-use Rattle.polygon.specs.Verdict.{isHeldBy}
-use Rattle.polygon.proofs.Laws.Checks.{gridded-fine}
-use Rattle.polygon.proofs.Laws.Edges.{end-within}
+use Rattle.polygon.specs.Vertices.{vertices_count, start_of, end_of}
+use Rattle.polygon.specs.Border.{is_coincident}
+use Rattle.polygon.specs.Verdict.{is_held_by}
+use Rattle.polygon.proofs.Laws.Checks.{gridded_fine}
+use Rattle.polygon.proofs.Laws.Edges.{end_within}
 use Rattle.search.specs.Border.{NextHeld, NextOther}
 use Rattle.search.proofs.Laws.Arc.{reference}
 use Rattle.search.proofs.border.next_other.Statement.{statement}
@@ -20,9 +20,9 @@ use Rattle.search.proofs.border.next_other.Tie as tie
 
 record Passed (vs : List ℤ) (P : Point) (first i : ℕ) : Type 0 where
   after : first < i
-  within : i ≤ vertexCount vs
-  each : (j : ℕ) → first < j → j < i → isHeldBy vs P j ≡ true →
-      isCoincident vs (start_of vs first) (end_of vs first) j ≡ true
+  within : i ≤ vertices_count vs
+  each : (j : ℕ) → first < j → j < i → is_held_by vs P j ≡ true →
+      is_coincident vs (start_of vs first) (end_of vs first) j ≡ true
 
 module _ {vs : List ℤ} {P : Point} {first i : ℕ} (s : Passed vs P first i) {at : ℕ} (n : NextHeld vs P i at) where
   -- those before the next that holds the query
@@ -33,28 +33,28 @@ module _ {vs : List ℤ} {P : Point} {first i : ℕ} (s : Passed vs P first i) {
     each = λ j h l e. go (ltb j i) refl h l e;
   }
     where
-      go : (t : Bool) {j : ℕ} → ltb j i ≡ t → first < j → j < at → isHeldBy vs P j ≡ true →
-          isCoincident vs (start_of vs first) (end_of vs first) j ≡ true
+      go : (t : Bool) {j : ℕ} → ltb j i ≡ t → first < j → j < at → is_held_by vs P j ≡ true →
+          is_coincident vs (start_of vs first) (end_of vs first) j ≡ true
       go true {j} t h l e = s.each j h (ltb-true j i t) e
       go false {j} t h l e = absurd (true≢false (sym e ∙ n.passed j (ltb-false j i t) l))
 
 -- and that one
-step : {vs : List ℤ} {P : Point} {first i : ℕ} → Passed vs P first i → i < vertexCount vs →
-    isCoincident vs (start_of vs first) (end_of vs first) i ≡ true → Passed vs P first (i + 1)
+step : {vs : List ℤ} {P : Point} {first i : ℕ} → Passed vs P first i → i < vertices_count vs →
+    is_coincident vs (start_of vs first) (end_of vs first) i ≡ true → Passed vs P first (i + 1)
 step {vs} {P} {first} {i} s more e = record {
   after = omega (arith, s.after);
   within = omega (arith, more);
   each = λ j h l held. go (ltb j i) refl h l held;
 }
   where
-    go : (t : Bool) {j : ℕ} → ltb j i ≡ t → first < j → j < i + 1 → isHeldBy vs P j ≡ true →
-        isCoincident vs (start_of vs first) (end_of vs first) j ≡ true
+    go : (t : Bool) {j : ℕ} → ltb j i ≡ t → first < j → j < i + 1 → is_held_by vs P j ≡ true →
+        is_coincident vs (start_of vs first) (end_of vs first) j ≡ true
     go true {j} t h l held = s.each j h (ltb-true j i t) held
     go false {j} t h l held = let same : j ≡ i = omega (arith, ltb-false j i t, l) in rw same e
 
 -- all of them
-ended : {vs : List ℤ} {P : Point} {first i : ℕ} → Passed vs P first i → vertexCount vs ≤ i →
-    NextOther vs P first (vertexCount vs)
+ended : {vs : List ℤ} {P : Point} {first i : ℕ} → Passed vs P first i → vertices_count vs ≤ i →
+    NextOther vs P first (vertices_count vs)
 ended {vs} {P} {first} {i} s l = record {
   after = omega (arith, s.after, s.within, l);
   within = omega arith;
@@ -67,7 +67,7 @@ abbrev invariant-loop : tie.invariant-loop
 invariant-loop vertices boxes arc first n c d i₀ i = Passed vertices arc.to first i
 
 abbrev decreases-loop : tie.decreases-loop
-decreases-loop vertices boxes arc first n c d i₀ i = vertexCount vertices - i
+decreases-loop vertices boxes arc first n c d i₀ i = vertices_count vertices - i
 
 vertex-at-requires : tie.Need-vertex-at-requires invariant-loop decreases-loop
 vertex-at-requires c κs = omega (arith, c.requires.1)
@@ -115,11 +115,11 @@ joins-requires : tie.Need-joins-requires invariant-loop decreases-loop
 joins-requires c κs =
     let n = c.before in
     let p = (s n).requires in
-    let grid = gridded-fine (s n).args.arc.plane.grid (reference p.0.aimed).accepted.gridded in (
+    let grid = gridded_fine (s n).args.arc.plane.grid (reference p.0.aimed).accepted.gridded in (
       grid,
       c.if1.false,
       rw (ends n).before.vertex-at.ensures (grid.each (s n).args.first p.1),
-      end-within grid p.1 (ends n).end_of_lem.ensures,
+      end_within grid p.1 (ends n).end_of_lem.ensures,
     )
 
 -- What the test says of it.
@@ -127,17 +127,17 @@ module _ (c : tie.After-joins invariant-loop decreases-loop) where
   abbrev next : tie.After-next-held invariant-loop decreases-loop
   next = c.before.before
 
-  more : edge next < vertexCount (vs next)
+  more : edge next < vertices_count (vs next)
   more = c.before.if1.false
 
   own : {t : Bool} →
-      isCoincident (vs next) (ends next).before.vertex-at.result (ends next).end_of_lem.result (edge next) ≡ t →
+      is_coincident (vs next) (ends next).before.vertex-at.result (ends next).end_of_lem.result (edge next) ≡ t →
       let first = (s next).args.first in
-      isCoincident (vs next) (start_of (vs next) first) (end_of (vs next) first) (edge next) ≡ t
+      is_coincident (vs next) (start_of (vs next) first) (end_of (vs next) first) (edge next) ≡ t
   own e =
       let a = (ends next).before.vertex-at.ensures in
       let b = (ends next).end_of_lem.ensures in
-      sym (λ k. isCoincident (vs next) (a k) (b k) (edge next)) ∙ e
+      sym (λ k. is_coincident (vs next) (a k) (b k) (edge next)) ∙ e
 
 returns-2 : tie.Need-returns-2 invariant-loop decreases-loop
 returns-2 c =
@@ -169,8 +169,8 @@ loop-again c =
 returns-3 : tie.Need-returns-3 invariant-loop decreases-loop
 returns-3 c = ended c.before.loop.invariant c.loop-test.false
 
-pub next-other-spec : {M : Type 1} → statement M
-next-other-spec =
+pub next_other_spec : {M : Type 1} → statement M
+next_other_spec =
     tie.close
     (tie.spec
     invariant-loop

@@ -5,9 +5,9 @@ use native.Mathlib.Omega.{arith}
 use borrow.Author.Rules.{rules}
 use mir.Syntax.{w64}
 use mir.ValLaws.{to_z-of_z}
-use Rattle.integers.proofs.Compare.{result-same}
+use Rattle.integers.proofs.Compare.{result_same}
 use Rattle.sphere.proofs.Numbers.{words_of}
-use Rattle.search.specs.Boxes.{cornerFor}
+use Rattle.search.specs.Boxes.{corner_for}
 use Rattle.search.proofs.boxes.corner.Statement.{statement}
 use Rattle.search.proofs.boxes.corner.Tie as tie
 
@@ -30,7 +30,7 @@ later : (at a k : ℕ) → at + k + a ≡ at + a + k
 later at a k = omega arith
 
 returns : tie.Need-returns
-unfolding cornerFor
+unfolding corner_for
 returns c =
     let third = c.before in
     let second = third.before.before in
@@ -41,20 +41,20 @@ returns c =
     let y = third.before.end-for2 in
     let z = c.end-for3 in
     cc (
-      result-same w64 x.result x.type-inv x.ensures,
-      result-same w64 y.result y.type-inv y.ensures,
-      result-same w64 z.result z.type-inv z.ensures,
+      result_same w64 x.result x.type-inv x.ensures,
+      result_same w64 y.result y.type-inv y.ensures,
+      result_same w64 z.result z.type-inv z.ensures,
       to_z-of_z w64 s.normal.x n.at_x,
       to_z-of_z w64 s.normal.y n.at_y,
-      to_z-of_z w64 s.normal.z n.at-z,
+      to_z-of_z w64 s.normal.z n.at_z,
       later s.at s.a 1,
       later s.at s.b 1,
       later s.at s.a 2,
       later s.at s.b 2,
     )
 
-pub corner-spec : {M : Type 1} → statement M
-corner-spec =
+pub corner_spec : {M : Type 1} → statement M
+corner_spec =
     tie.close
     (tie.spec
     end-for-requires

@@ -10,8 +10,8 @@ use lib.ListN.{length, get_or}
 use mir.Syntax.{w64}
 use mir.Val.{to_z, of_z}
 use mir.ValLaws.{to_z-of_z}
-use Rattle.integers.specs.Sign.{sign_of, isNegative}
-use Rattle.integers.proofs.Compare.{result-same}
+use Rattle.integers.specs.Sign.{sign_of, is_negative}
+use Rattle.integers.proofs.Compare.{result_same}
 use Rattle.search.proofs.boxes.end_for.Statement.{statement}
 use Rattle.search.proofs.boxes.end_for.Tie as tie
 
@@ -27,10 +27,10 @@ read_one l false at a b = refl
 -- The place that is read.
 below : (s : tie.Start) →
     let a = s.args in
-    a.at + cond (isNegative (sign_of (to_z w64 (of_z w64 a.n)))) a.b a.a < length a.boxes.now
+    a.at + cond (is_negative (sign_of (to_z w64 (of_z w64 a.n)))) a.b a.a < length a.boxes.now
 below s =
     let a = s.args in
-    one_of (isNegative (sign_of (to_z w64 (of_z w64 a.n)))) a.at a.a a.b s.requires.0 s.requires.1
+    one_of (is_negative (sign_of (to_z w64 (of_z w64 a.n)))) a.at a.a a.b s.requires.0 s.requires.1
 
 end-at-requires : tie.Need-end-at-requires
 end-at-requires c κs = search rules
@@ -52,10 +52,10 @@ returns c =
     let s = c.before.before in
     let l = s.args.boxes.now in
     let n = to_z-of_z w64 s.args.n s.ranges.n in
-    let place = c.before.end-at.ensures ∙ ap (λ m. cond (isNegative (sign_of m)) s.args.b s.args.a) n in
-    result-same w64 c.number_at.result c.number_at.type-inv
+    let place = c.before.end-at.ensures ∙ ap (λ m. cond (is_negative (sign_of m)) s.args.b s.args.a) n in
+    result_same w64 c.number_at.result c.number_at.type-inv
     (c.number_at.ensures ∙ ap (λ (k : ℕ). get_or l (s.args.at + k) (pos 0)) place
-    ∙ read_one l (isNegative (sign_of s.args.n)) s.args.at s.args.a s.args.b)
+    ∙ read_one l (is_negative (sign_of s.args.n)) s.args.at s.args.a s.args.b)
 
-pub end-for-spec : {M : Type 1} → statement M
-end-for-spec = tie.close (tie.spec end-at-requires add-number-at number-at-requires returns)
+pub end_for_spec : {M : Type 1} → statement M
+end_for_spec = tie.close (tie.spec end-at-requires add-number-at number-at-requires returns)

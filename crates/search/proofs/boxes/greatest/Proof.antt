@@ -1,10 +1,10 @@
 -- `greatest` meets its contract, coordinate by coordinate.
 use borrow.Author.Rules.{rules}
 use mir.Syntax.{w64}
-use Rattle.integers.proofs.Compare.{result-same}
+use Rattle.integers.proofs.Compare.{result_same}
 use Rattle.sphere.proofs.Numbers.{words_of}
 use Rattle.search.specs.Boxes.{greater_of}
-use Rattle.search.proofs.Laws.Extremes.{words-by}
+use Rattle.search.proofs.Laws.Extremes.{words_by}
 use Rattle.search.proofs.boxes.greatest.Statement.{statement}
 use Rattle.search.proofs.boxes.greatest.Tie as tie
 
@@ -25,8 +25,8 @@ returns c =
     let x = c.before.before.before.before.before.before.greater in
     let y = c.before.before.before.greater2 in
     let z = c.greater3 in
-    words-by greater_of p q (result-same w64 x.result x.type-inv x.ensures)
-    (result-same w64 y.result y.type-inv y.ensures) (result-same w64 z.result z.type-inv z.ensures)
+    words_by greater_of p q (result_same w64 x.result x.type-inv x.ensures)
+    (result_same w64 y.result y.type-inv y.ensures) (result_same w64 z.result z.type-inv z.ensures)
 
-pub greatest-spec : {M : Type 1} → statement M
-greatest-spec = tie.close (tie.spec greater-requires greater-requires-2 greater-requires-3 returns)
+pub greatest_spec : {M : Type 1} → statement M
+greatest_spec = tie.close (tie.spec greater-requires greater-requires-2 greater-requires-3 returns)

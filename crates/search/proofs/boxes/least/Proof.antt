@@ -1,10 +1,10 @@
 -- `least` meets its contract, coordinate by coordinate.
 use borrow.Author.Rules.{rules}
 use mir.Syntax.{w64}
-use Rattle.integers.proofs.Compare.{result-same}
+use Rattle.integers.proofs.Compare.{result_same}
 use Rattle.sphere.proofs.Numbers.{words_of}
-use Rattle.search.specs.Boxes.{lesserOf}
-use Rattle.search.proofs.Laws.Extremes.{words-by}
+use Rattle.search.specs.Boxes.{lesser_of}
+use Rattle.search.proofs.Laws.Extremes.{words_by}
 use Rattle.search.proofs.boxes.least.Statement.{statement}
 use Rattle.search.proofs.boxes.least.Tie as tie
 
@@ -25,8 +25,8 @@ returns c =
     let x = c.before.before.before.before.before.before.lesser in
     let y = c.before.before.before.lesser2 in
     let z = c.lesser3 in
-    words-by lesserOf p q (result-same w64 x.result x.type-inv x.ensures)
-    (result-same w64 y.result y.type-inv y.ensures) (result-same w64 z.result z.type-inv z.ensures)
+    words_by lesser_of p q (result_same w64 x.result x.type-inv x.ensures)
+    (result_same w64 y.result y.type-inv y.ensures) (result_same w64 z.result z.type-inv z.ensures)
 
-pub least-spec : {M : Type 1} → statement M
-least-spec = tie.close (tie.spec lesser-requires lesser-requires-2 lesser-requires-3 returns)
+pub least_spec : {M : Type 1} → statement M
+least_spec = tie.close (tie.spec lesser-requires lesser-requires-2 lesser-requires-3 returns)

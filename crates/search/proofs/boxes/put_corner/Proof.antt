@@ -29,7 +29,7 @@ put-number-requires-3 : tie.Need-put-number-requires-3
 put-number-requires-3 c κs =
     let s = c.before.before.before.before.before.before.before.before.before.before in
     let p = s.args.p in
-    let w = s.requires.1 in (omega arith, rw (whole p.z w.at-z) w.at-z)
+    let w = s.requires.1 in (omega arith, rw (whole p.z w.at_z) w.at_z)
 
 same_length : tie.Need-same-length
 same_length c = search rules
@@ -44,11 +44,11 @@ returns c =
     let w = s.requires.1 in
     let x = rw (whole p.x w.at_x) at c1.put-number.ensures in
     let y = rw (whole p.y w.at_y, x) at c2.put-number2.ensures in
-    let z = rw (whole p.z w.at-z, y) at c3.put-number3.ensures in
+    let z = rw (whole p.z w.at_z, y) at c3.put-number3.ensures in
     z ∙ simp towards_suc
 
-pub put-corner-spec : {M : Type 1} → statement M
-put-corner-spec =
+pub put_corner_spec : {M : Type 1} → statement M
+put_corner_spec =
     tie.close
     (tie.spec
     put-number-requires

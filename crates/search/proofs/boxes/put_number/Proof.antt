@@ -22,5 +22,5 @@ returns : tie.Need-returns
 returns c =
     rw (to_z-of_z w64 c.args.n c.ranges.n, to_z-of_z w32 c.args.n (narrow c.args.n c.requires.1))
 
-pub put-number-spec : {M : Type 1} → statement M
-put-number-spec = tie.close (tie.spec cast-boxes mul-t5 slice-set-from-boxes same_length returns)
+pub put_number_spec : {M : Type 1} → statement M
+put_number_spec = tie.close (tie.spec cast-boxes mul-t5 slice-set-from-boxes same_length returns)

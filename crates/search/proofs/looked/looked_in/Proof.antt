@@ -3,19 +3,19 @@ use mathlib.Core.Path.{◌≡◌, sym, ◌∙◌, ap}
 use mathlib.Core.Bool.{Bool, not}
 use Prim.Native.Nat.{ℕ, ◌+◌, ◌*◌, ◌-◌, ◌/◌, ◌≤◌, ◌<◌}
 use native.Mathlib.Omega.{arith}
-use Rattle.answer.proofs.Laws.Blocks.{count-all, count_none}
-use Rattle.search.specs.Boxes.{runEnd}
-use Rattle.search.specs.Walk.{isLookedBy}
-use Rattle.search.proofs.Laws.Runs.{Run, run-known, run-few}
+use Rattle.answer.proofs.Laws.Blocks.{count_all, count_none}
+use Rattle.search.specs.Boxes.{run_end}
+use Rattle.search.specs.Walk.{is_looked_by}
+use Rattle.search.proofs.Laws.Runs.{Run, run_known, run_few}
 use Rattle.search.proofs.looked.looked_in.Statement.{statement}
 use Rattle.search.proofs.looked.looked_in.Tie as tie
 
 module _ (s : tie.Start) where
   few : s.args.r < 128
-  few = run-few s.args.reach s.args.r s.requires.1.0 s.requires.1.1
+  few = run_few s.args.reach s.args.r s.requires.1.0 s.requires.1.1
 
-  run : Run s.args.reach s.args.r (runEnd s.args.reach s.args.r)
-  run = run-known s.args.reach s.args.r s.pre.1.1
+  run : Run s.args.reach s.args.r (run_end s.args.reach s.args.r)
+  run = run_known s.args.reach s.args.r s.pre.1.1
 
 is-apart-requires : tie.Need-is-apart-requires
 is-apart-requires c κs =
@@ -23,17 +23,17 @@ is-apart-requires c κs =
     ((c.requires.0.0, omega (arith, c.requires.1.1, box.room)), box.each c.args.r c.requires.1.1)
 
 -- What the test of the box says of each edge of the run.
-in-run : (r j : ℕ) → r * 32 ≤ j → j < r * 32 + 32 → j / 32 ≡ r
-in-run r j h l = omega arith
+in_run : (r j : ℕ) → r * 32 ≤ j → j < r * 32 + 32 → j / 32 ≡ r
+in_run r j h l = omega arith
 
 looked : (c : tie.After-is-apart) {t : Bool} → c.is-apart.result ≡ t →
     let s = c.before.args in
-    (j : ℕ) → s.r * 32 ≤ j → j < s.r * 32 + (runEnd s.reach s.r - s.r * 32) →
-    isLookedBy s.boxes.now s.plane.normal j ≡ not t
-unfolding isLookedBy
+    (j : ℕ) → s.r * 32 ≤ j → j < s.r * 32 + (run_end s.reach s.r - s.r * 32) →
+    is_looked_by s.boxes.now s.plane.normal j ≡ not t
+unfolding is_looked_by
 looked c e j h l =
     let s = c.before in
-    let same = in-run s.args.r j h (omega (arith, l, h, (run s).size)) in
+    let same = in_run s.args.r j h (omega (arith, l, h, (run s).size)) in
     rw same (ap not (sym c.is-apart.ensures ∙ e))
 
 returns : tie.Need-returns
@@ -55,10 +55,10 @@ cast-result c =
 returns-2 : tie.Need-returns-2
 returns-2 c =
     ap (λ to. to - c.before.before.before.args.r * 32) c.run-end.ensures
-    ∙ sym (count-all _ _ _ (looked c.before.before c.before.if1.false))
+    ∙ sym (count_all _ _ _ (looked c.before.before c.before.if1.false))
 
-pub looked-in-spec : {M : Type 1} → statement M
-looked-in-spec =
+pub looked_in_spec : {M : Type 1} → statement M
+looked_in_spec =
     tie.close
     (tie.spec
     is-apart-requires

@@ -25,5 +25,5 @@ returns c = rw (c.before.tally.given.1, add-one)
 returns-2 : tie.Need-returns-2
 returns-2 c = search rules
 
-pub reach-of-spec : {M : Type 1} → statement M
-reach-of-spec = tie.close (tie.spec enum-known-tally add-result enum_told returns returns-2)
+pub reach_of_spec : {M : Type 1} → statement M
+reach_of_spec = tie.close (tie.spec enum-known-tally add-result enum_told returns returns-2)

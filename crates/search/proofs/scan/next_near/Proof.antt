@@ -10,16 +10,16 @@ use lib.IntN.{ℤ}
 use mir.Syntax.{w64}
 use mir.Val.{to_z, of_z}
 use Rattle.integers.specs.Sign.{sign_of}
-use Rattle.integers.proofs.Compare.{result-sign}
+use Rattle.integers.proofs.Compare.{result_sign}
 use Rattle.sphere.specs.declared.point.Point.{Point}
 use Rattle.polygon.specs.Vertices.{next_of}
-use Rattle.search.specs.Scan.{Scanning, side_of, Sided, isNear}
-use Rattle.search.proofs.Laws.Scanned.{scan_step, scan-hit, scan-end, sided-held}
+use Rattle.search.specs.Scan.{Scanning, side_of, Sided, is_near}
+use Rattle.search.proofs.Laws.Scanned.{scan_step, scan_hit, scan_end, sided_held}
 use Rattle.search.proofs.scan.next_near.Statement.{statement}
 use Rattle.search.proofs.scan.next_near.Tie as tie
 
 record Scanned (vs : List ℤ) (N : Point) (i last edge s1 : ℕ) : Type 0 where
-  scan : Scanning (isNear vs N) i last edge
+  scan : Scanning (is_near vs N) i last edge
   side : Sided vs N edge (to_z w64 s1)
 
 abbrev invariant-loop : tie.invariant-loop
@@ -29,7 +29,7 @@ abbrev decreases-loop : tie.decreases-loop
 decreases-loop vertices plane closing i side last edge₀ s1₀ edge s1 = last - edge
 
 skip-requires : tie.Need-skip-requires invariant-loop decreases-loop
-skip-requires c κs = (c.requires.0, (c.requires.1.0.0, c.requires.1.0.1, sided-held c.ranges.side c.requires.1.1.0))
+skip-requires c κs = (c.requires.0, (c.requires.1.0.0, c.requires.1.0.1, sided_held c.ranges.side c.requires.1.1.0))
 
 loop-holds : tie.Need-loop-init invariant-loop decreases-loop
 loop-holds c = record { scan = c.skip.ensures.0; side = c.skip.ensures.1 }
@@ -70,10 +70,10 @@ module _ (c : tie.After-is-beside invariant-loop decreases-loop) where
       ≡ sign_of (side_of start.args.vertices.now start.args.plane.normal (walk.loop.edge + 1))
   second =
       let d = c.before.side-of in
-      result-sign w64 d.result d.type-inv (rw c.before.before.vertex-at.ensures at d.ensures)
+      result_sign w64 d.result d.type-inv (rw c.before.before.vertex-at.ensures at d.ensures)
 
   near : {t : Bool} → not c.is-beside.result ≡ t →
-      isNear start.args.vertices.now start.args.plane.normal walk.loop.edge ≡ t
+      is_near start.args.vertices.now start.args.plane.normal walk.loop.edge ≡ t
   near e = rw (← first, ← second, ← c.is-beside.ensures) e
 
 returns : tie.Need-returns invariant-loop decreases-loop
@@ -84,7 +84,7 @@ returns c =
     let last = (start b).args.last in
     let edge = (walk b).loop.edge in
     let inner = lt-ltb (edge + 1) (last + 1) (omega (arith, more b)) in
-    (scan-hit inv.scan (more b) (near b c.if1.true), inv.side, record { known = λ h. second b ∙ rw inner })
+    (scan_hit inv.scan (more b) (near b c.if1.true), inv.side, record { known = λ h. second b ∙ rw inner })
 
 add-edge : tie.Need-overflow-add-edge invariant-loop decreases-loop
 add-edge c =
@@ -107,13 +107,13 @@ returns-2 c =
     let inv = c.before.loop.invariant in
     let s = c.before.before.before in
     let end = le-ltb (c.before.loop.edge + 1) (s.args.last + 1) (omega (arith, c.loop-test.false)) in (
-      scan-end inv.scan c.loop-test.false,
+      scan_end inv.scan c.loop-test.false,
       inv.side,
-      rw end (sided-held s.ranges.closing s.requires.1.1.1),
+      rw end (sided_held s.ranges.closing s.requires.1.1.1),
     )
 
-pub next-near-spec : {M : Type 1} → statement M
-next-near-spec =
+pub next_near_spec : {M : Type 1} → statement M
+next_near_spec =
     tie.close
     (tie.spec
     invariant-loop

@@ -6,23 +6,23 @@ use native.Mathlib.Omega.{arith}
 use borrow.Author.Rules.{rules}
 use borrow.Author.Tests.{not-false}
 use Rattle.integers.specs.Sign.{positive, negative, sign_of}
-use Rattle.sphere.specs.Approximate.{floatDotOf, isSurely}
-use Rattle.polygon.specs.Vertices.{vertexCount, vertexAt}
-use Rattle.search.specs.Scan.{Scanning, side_of, Strict, isNear}
-use Rattle.search.proofs.Laws.Scanned.{scan-start, scan_step}
-use Rattle.search.proofs.Laws.Sure.{sure-side, strict-far}
+use Rattle.sphere.specs.Approximate.{float_dot_of, is_surely}
+use Rattle.polygon.specs.Vertices.{vertices_count, vertex_at}
+use Rattle.search.specs.Scan.{Scanning, side_of, Strict, is_near}
+use Rattle.search.proofs.Laws.Scanned.{scan_start, scan_step}
+use Rattle.search.proofs.Laws.Sure.{sure_side, strict_far}
 use Rattle.search.proofs.scan.past_sure.Statement.{statement}
 use Rattle.search.proofs.scan.past_sure.Tie as tie
 
 abbrev invariant-loop : tie.invariant-loop
 invariant-loop vertices plane above i last edge₀ edge =
-    Scanning (isNear vertices plane.normal) i last edge × Strict vertices plane.normal above edge
+    Scanning (is_near vertices plane.normal) i last edge × Strict vertices plane.normal above edge
 
 abbrev decreases-loop : tie.decreases-loop
 decreases-loop vertices plane above i last edge₀ edge = last - edge
 
 loop-holds : tie.Need-loop-init invariant-loop decreases-loop
-loop-holds c = (scan-start, c.requires.1.2)
+loop-holds c = (scan_start, c.requires.1.2)
 
 add-loop : tie.Need-overflow-add-loop invariant-loop decreases-loop
 add-loop c =
@@ -38,7 +38,7 @@ module _ (c : tie.In-loop invariant-loop decreases-loop) where
   abbrev edge : ℕ
   edge = c.before.loop.edge
 
-  more : edge + 2 < vertexCount start.args.vertices.now
+  more : edge + 2 < vertices_count start.args.vertices.now
   more = omega (arith, c.loop-test.true, start.pre.1.1)
 
   most : edge + 2 ≤ 4096
@@ -100,24 +100,24 @@ module _ (c : tie.Else1 invariant-loop decreases-loop) where
   Above j = sign_of (side_of s.args.vertices.now s.args.plane.normal j)
       ≡ cond s.args.above positive negative
 
-  side : (j : ℕ) → j < vertexCount s.args.vertices.now →
-      isSurely s.args.above (floatDotOf s.args.plane.floats (vertexAt s.args.vertices.now j)) ≡ true →
+  side : (j : ℕ) → j < vertices_count s.args.vertices.now →
+      is_surely s.args.above (float_dot_of s.args.plane.floats (vertex_at s.args.vertices.now j)) ≡ true →
       Above j
-  side j h e = sure-side s.args.plane s.args.above s.pre.0.1 s.pre.0.3 s.pre.0.2 j h e
+  side j h e = sure_side s.args.plane s.args.above s.pre.0.1 s.pre.0.3 s.pre.0.2 j h e
 
   first : Above (edge at + 1)
   first =
       let f = dots.before.before in
-      let turn = f.float-dot.ensures ∙ ap (floatDotOf s.args.plane.floats) f.before.vertex-at.ensures in
+      let turn = f.float-dot.ensures ∙ ap (float_dot_of s.args.plane.floats) f.before.vertex-at.ensures in
       side (edge at + 1) (omega (arith, more at))
-      (ap (isSurely s.args.above) (sym turn) ∙ sym tests.is-surely.ensures ∙ sure.0)
+      (ap (is_surely s.args.above) (sym turn) ∙ sym tests.is-surely.ensures ∙ sure.0)
 
   second : Above (edge at + 2)
   second =
       let v = dots.before in
-      let turn = dots.float-dot2.ensures ∙ ap (floatDotOf s.args.plane.floats) v.vertex-at2.ensures in
+      let turn = dots.float-dot2.ensures ∙ ap (float_dot_of s.args.plane.floats) v.vertex-at2.ensures in
       side (edge at + 2) (more at)
-      (ap (isSurely s.args.above) (sym turn) ∙ sym c.before.is-surely2.ensures ∙ sure.1)
+      (ap (is_surely s.args.above) (sym turn) ∙ sym c.before.is-surely2.ensures ∙ sure.1)
 
   here : Above (edge at)
   here = at.before.loop.inv.1.known (omega (arith, more at))
@@ -125,13 +125,13 @@ module _ (c : tie.Else1 invariant-loop decreases-loop) where
   on : edge at + 1 + 1 ≡ edge at + 2
   on = omega arith
 
-  passed : Scanning (isNear s.args.vertices.now s.args.plane.normal) s.args.i s.args.last
+  passed : Scanning (is_near s.args.vertices.now s.args.plane.normal) s.args.i s.args.last
       (edge at + 2)
   passed =
       let v = s.args in
-      let far = strict-far v.vertices.now v.plane.normal v.above in
+      let far = strict_far v.vertices.now v.plane.normal v.above in
       let taken = at.loop-test.taken in
-      subst (Scanning (isNear v.vertices.now v.plane.normal) v.i v.last) on
+      subst (Scanning (is_near v.vertices.now v.plane.normal) v.i v.last) on
       (scan_step (scan_step at.before.loop.inv.0 (omega (arith, taken)) (far (edge at) here first)) taken
       (far (edge at + 1) first (subst Above (sym on) second)))
 
@@ -147,8 +147,8 @@ loop-again c = (passed c, record { known = λ h. second c })
 returns-2 : tie.Need-returns-2 invariant-loop decreases-loop
 returns-2 c = c.before.loop.invariant
 
-pub past-sure-spec : {M : Type 1} → statement M
-past-sure-spec =
+pub past_sure_spec : {M : Type 1} → statement M
+past_sure_spec =
     tie.close
     (tie.spec
     invariant-loop

@@ -6,14 +6,14 @@ use mir.ValLaws.{to_z-of_z}
 use borrow.Author.Rules.{sfits_of}
 use Rattle.integers.specs.Sign.{sign_of}
 use Rattle.search.specs.Scan.{side_of}
-use Rattle.search.proofs.Laws.Scanned.{sided-held}
+use Rattle.search.proofs.Laws.Scanned.{sided_held}
 use Rattle.search.proofs.scan.side_at.Statement.{statement}
 use Rattle.search.proofs.scan.side_at.Tie as tie
 
 returns : tie.Need-returns
 returns c =
     let s = c.before in
-    (sided-held s.ranges.closing s.requires.1).known (omega (arith, s.requires.0.2))
+    (sided_held s.ranges.closing s.requires.1).known (omega (arith, s.requires.0.2))
     ∙ ap (λ i. sign_of (side_of s.args.vertices.now s.args.plane.normal i)) (sym c.if1.true)
 
 vertex-at-requires : tie.Need-vertex-at-requires
@@ -29,5 +29,5 @@ returns-2 c =
     let d = c.side-of in
     ap sign_of (to_z-of_z w64 d.result (sfits_of d.type-inv)) ∙ rw c.before.vertex-at.ensures at d.ensures
 
-pub side-at-spec : {M : Type 1} → statement M
-side-at-spec = tie.close (tie.spec returns vertex-at-requires side-of-requires returns-2)
+pub side_at_spec : {M : Type 1} → statement M
+side_at_spec = tie.close (tie.spec returns vertex-at-requires side-of-requires returns-2)

@@ -5,17 +5,17 @@ use Prim.Native.Nat.{ℕ}
 use borrow.Author.Rules.{rules}
 use Rattle.search.specs.declared.walk.Mode.{Mode}
 use Rattle.search.specs.declared.walk.Mode.TheVariants.{Plain, Boxed, Counted}
-use Rattle.search.specs.Walk.{isCounted, lookedIn}
+use Rattle.search.specs.Walk.{is_counted, looked_in}
 use Rattle.search.proofs.walk.search_edges.Statement.{statement}
 use Rattle.search.proofs.walk.search_edges.Tie as tie
 
 -- The number that a mode gives.
-counted : (mode : Mode) (k : ℕ) → isCounted mode ≡ true → k ≡ lookedIn mode k
+counted : (mode : Mode) (k : ℕ) → is_counted mode ≡ true → k ≡ looked_in mode k
 counted Plain k e = absurd (true≢false (sym e))
 counted Boxed k e = absurd (true≢false (sym e))
 counted Counted k e = refl
 
-uncounted : (mode : Mode) (k : ℕ) → isCounted mode ≡ false → 0 ≡ lookedIn mode k
+uncounted : (mode : Mode) (k : ℕ) → is_counted mode ≡ false → 0 ≡ looked_in mode k
 uncounted Plain k e = refl
 uncounted Boxed k e = refl
 uncounted Counted k e = absurd (true≢false e)
@@ -51,8 +51,8 @@ returns-2 c =
       u.1 ∙ uncounted m.before.args.mode _ (sym m.is-counted.ensures ∙ f.if1.false),
     )
 
-pub search-edges-spec : {M : Type 1} → statement M
-search-edges-spec =
+pub search_edges_spec : {M : Type 1} → statement M
+search_edges_spec =
     tie.close
     (tie.spec
     is-counted-requires

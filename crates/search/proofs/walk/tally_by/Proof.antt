@@ -21,5 +21,5 @@ returns c =
 returns-2 : tie.Need-returns-2
 returns-2 c = rw c.before.found.given.1
 
-pub tally-by-spec : {M : Type 1} → statement M
-tally-by-spec = tie.close (tie.spec enum_told enum-known-found returns returns-2)
+pub tally_by_spec : {M : Type 1} → statement M
+tally_by_spec = tie.close (tie.spec enum_told enum-known-found returns returns-2)

@@ -11,17 +11,17 @@ use lib.IntN.{ℤ, ◌+ℤ◌}
 use mir.Syntax.{w32, w64}
 use mir.Val.{SFits, to_z}
 use mir.ValLaws.{to_z-of_z}
-use Rattle.integers.proofs.Compare.{result-sign}
+use Rattle.integers.proofs.Compare.{result_sign}
 use Rattle.search.specs.declared.arc.Arc.{Arc}
 use Rattle.search.specs.declared.scan.Near.{Near}
 use Rattle.search.specs.Scan.{Sided, NearFrom}
-use Rattle.search.specs.Walk.{stopsAt}
+use Rattle.search.specs.Walk.{stops_at}
 use Rattle.search.proofs.Laws.Arc.{reference}
-use Rattle.search.proofs.Laws.OneSided.{tallied-past}
-use Rattle.search.proofs.Laws.Near.{next-sided}
-use Rattle.search.proofs.Laws.Scanned.{sided-held}
-use Rattle.search.proofs.Laws.Tally.{TalliedOn, tallied-start, on-block, on-held, on-end}
-use Rattle.search.proofs.Laws.Tally.{tallied-few, one-held, one_way, sum_fits, sum-held}
+use Rattle.search.proofs.Laws.OneSided.{tallied_past}
+use Rattle.search.proofs.Laws.Near.{next_sided}
+use Rattle.search.proofs.Laws.Scanned.{sided_held}
+use Rattle.search.proofs.Laws.Tally.{TalliedOn, tallied_start, on_block, on_held, on_end}
+use Rattle.search.proofs.Laws.Tally.{tallied_few, one_held, one_way, sum_fits, sum_held}
 use Rattle.search.proofs.walk.walk_edges.Statement.{statement}
 use Rattle.search.proofs.walk.walk_edges.Tie as tie
 
@@ -30,7 +30,7 @@ record Walked (vs : List ℤ) (arc : Arc) (stop : Bool) (from to i : ℕ) (side 
   after : from ≤ i
   before : i ≤ to
   start : Sided vs arc.plane.normal i side
-  tallied : TalliedOn (stopsAt vs arc.to stop) vs arc.from arc.to from i crossed sum
+  tallied : TalliedOn (stops_at vs arc.to stop) vs arc.from arc.to from i crossed sum
 
 abbrev invariant-loop : tie.invariant-loop
 invariant-loop vertices arc closing from to stop i₀ side₀ crossed₀ sum₀ i side crossed sum =
@@ -48,7 +48,7 @@ module _ (s : tie.Start invariant-loop decreases-loop) where
 
   abbrev TalliedIn : ℕ → ℕ → ℤ → Type 0
   TalliedIn i crossed sum =
-      TalliedOn (stopsAt vs s.args.arc.to s.args.stop) vs s.args.arc.from s.args.arc.to
+      TalliedOn (stops_at vs s.args.arc.to s.args.stop) vs s.args.arc.from s.args.arc.to
       s.args.from i crossed sum
 
   -- past the edges that a scan passes
@@ -56,14 +56,14 @@ module _ (s : tie.Start invariant-loop decreases-loop) where
       NearFrom vs s.args.arc.from s.args.arc.to i s.args.to near →
       TalliedIn i crossed sum → TalliedIn near.edge crossed sum
   onward h n t =
-      tallied-past vs s.args.arc.from s.args.arc.to (reference s.pre.0.0).off-circle s.args.stop _ h
+      tallied_past vs s.args.arc.from s.args.arc.to (reference s.pre.0.0).off_circle s.args.stop _ h
       n.after (omega (arith, n.before, s.pre.1.1)) n.passed t
 
 side-at-requires : tie.Need-side-at-requires invariant-loop decreases-loop
 side-at-requires c κs =
     let a = c.requires.0.0 in (
       ((reference a).accepted.gridded, a.sound.sound, omega (arith, c.requires.1.0, c.requires.1.1)),
-      sided-held c.ranges.closing c.requires.0.1,
+      sided_held c.ranges.closing c.requires.0.1,
     )
 
 loop-holds : tie.Need-loop-init invariant-loop decreases-loop
@@ -73,15 +73,15 @@ loop-holds c =
     record {
       after = omega arith;
       before = omega (arith, s.requires.1.0);
-      start = record { known = λ h. result-sign w64 d.result d.type-inv d.ensures };
-      tallied = tallied-start s.args.from;
+      start = record { known = λ h. result_sign w64 d.result d.type-inv d.ensures };
+      tallied = tallied_start s.args.from;
     }
 
 near-from-requires : tie.Need-near-from-requires invariant-loop decreases-loop
 near-from-requires c κs =
     let s = c.before.before in
     let inv = c.loop.invariant in (
-      (s.requires.0.0, sided-held s.ranges.closing s.requires.0.1, inv.start),
+      (s.requires.0.0, sided_held s.ranges.closing s.requires.0.1, inv.start),
       (inv.before, s.requires.1.1),
     )
 
@@ -135,8 +135,8 @@ module _ (c : tie.After-counted invariant-loop decreases-loop) where
       TalliedIn (entry edge) (i edge + 1) (l.crossed + c.counted.result) (to_z w32 l.sum +ℤ way)
   next =
       let s = (entry edge).args in
-      on-block 1 (after edge) (here edge)
-      (one_way (stopsAt s.vertices.now s.arc.to s.stop) s.vertices.now s.arc.from s.arc.to
+      on_block 1 (after edge) (here edge)
+      (one_way (stops_at s.vertices.now s.arc.to s.stop) s.vertices.now s.arc.from s.arc.to
       (i edge)
       (sym tested.test-edge.ensures ∙ c.before.before.way.given.1)
       (rw (to_z-of_z w32 way fit) at c.counted.ensures))
@@ -145,7 +145,7 @@ module _ (c : tie.After-counted invariant-loop decreases-loop) where
   few = omega (arith, more, most (entry edge))
 
 add-crossed : tie.Need-overflow-add-crossed invariant-loop decreases-loop
-add-crossed c = omega (arith, tallied-few (next c), few c)
+add-crossed c = omega (arith, tallied_few (next c), few c)
 
 add-sum : tie.Need-overflow-add-sum invariant-loop decreases-loop
 add-sum c = sum_fits (at (edge c)).loop.sum (way c) (fit c) (few c) (next c)
@@ -166,8 +166,8 @@ loop-again c =
     record {
       after = omega (arith, after e);
       before = omega (arith, more b);
-      start = sided-held fits (next-sided s.pre.0.0.sound (e.near-from.ensures.ends (more b)));
-      tallied = sum-held (at e).loop.sum (way b) (fit b) (few b) (next b);
+      start = sided_held fits (next_sided s.pre.0.0.sound (e.near-from.ensures.ends (more b)));
+      tallied = sum_held (at e).loop.sum (way b) (fit b) (few b) (next b);
     }
 
 tally-by-requires : tie.Need-tally-by-requires invariant-loop decreases-loop
@@ -183,16 +183,16 @@ returns c =
     (λ w.
     let last : i e ≡ s.to = omega (arith, w.0.taken, e.near-from.ensures.before) in
     let all = subst (λ i. TalliedIn (entry e) i l.crossed (to_z w32 l.sum)) last (here e) in
-    rw w.1 (sym (on-end all)))
+    rw w.1 (sym (on_end all)))
     (λ w.
-    let found = one-held (stopsAt s.vertices.now s.arc.to s.stop) s.vertices.now s.arc.from
+    let found = one_held (stops_at s.vertices.now s.arc.to s.stop) s.vertices.now s.arc.from
     s.arc.to (i e)
     (sym w.1.ensures ∙ w.3.given.1) in
-    rw w.4 (sym (on-held 1 (after e) (here e) s.to (omega (arith, w.0.left)) found)))
+    rw w.4 (sym (on_held 1 (after e) (here e) s.to (omega (arith, w.0.left)) found)))
     c.before.if1.branch
 
-pub walk-edges-spec : {M : Type 1} → statement M
-walk-edges-spec =
+pub walk_edges_spec : {M : Type 1} → statement M
+walk_edges_spec =
     tie.close
     (tie.spec
     invariant-loop

@@ -9,7 +9,7 @@ bound-hint-requires : tie.Need-bound-hint-requires
 bound-hint-requires c κs = search rules
 
 is-ahead-requires : tie.Need-is-ahead-requires
-is-ahead-requires c κs = let s = c.before in (s.requires.0, within_more (leb→le 1 steep tt) s.requires.1.at-e)
+is-ahead-requires c κs = let s = c.before in (s.requires.0, within_more (leb→le 1 steep tt) s.requires.1.at_e)
 
 forward-requires : tie.Need-forward-requires
 forward-requires c κs =
@@ -25,7 +25,7 @@ beside-requires c κs = search rules
 returns-2 : tie.Need-returns-2
 returns-2 c = search rules
 
-pub bound-spec : {M : Type 1} → statement M
-bound-spec =
+pub bound_spec : {M : Type 1} → statement M
+bound_spec =
     tie.close
     (tie.spec bound-hint-requires is-ahead-requires forward-requires returns beside-requires returns-2)

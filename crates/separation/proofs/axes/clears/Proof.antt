@@ -1,8 +1,8 @@
 -- `clears` meets its contract.
 use Rattle.std.proofs.Common.{ap, ◌∙◌, w64, rules}
 use mir.ValLaws.{to_z-of_z}
-use Rattle.separation.specs.Separation.{isAhead}
-use Rattle.separation.specs.Axes.{planeOf}
+use Rattle.separation.specs.Separation.{is_ahead}
+use Rattle.separation.specs.Axes.{plane_of}
 use Rattle.separation.proofs.axes.clears.Statement.{statement}
 use Rattle.separation.proofs.axes.clears.Tie as tie
 
@@ -16,8 +16,8 @@ returns : tie.Need-returns
 returns c =
     let s = c.before.before in
     let i = s.args in
-    c.is-ahead.ensures ∙ ap (isAhead i.vertices.now) c.before.plane.ensures.0
-    ∙ ap (λ l. isAhead i.vertices.now (planeOf i.e i.d l)) (to_z-of_z w64 i.l s.ranges.l)
+    c.is-ahead.ensures ∙ ap (is_ahead i.vertices.now) c.before.plane.ensures.0
+    ∙ ap (λ l. is_ahead i.vertices.now (plane_of i.e i.d l)) (to_z-of_z w64 i.l s.ranges.l)
 
-pub clears-spec : {M : Type 1} → statement M
-clears-spec = tie.close (tie.spec plane-requires is-ahead-requires returns)
+pub clears_spec : {M : Type 1} → statement M
+clears_spec = tie.close (tie.spec plane-requires is-ahead-requires returns)

@@ -3,7 +3,7 @@ use Rattle.std.proofs.Common.{◌≡◌, neg_ℤ, ap, ◌∙◌, w64, to_z, of_z
 use mathlib.Core.Bool.{false≢true}
 use borrow.Author.Tests.{not-false}
 use mir.ValLaws.{to_z-of_z}
-use Rattle.integers.proofs.Compare.{result-same}
+use Rattle.integers.proofs.Compare.{result_same}
 use Rattle.separation.proofs.Laws.Cleared.{cleared}
 use Rattle.separation.proofs.axes.clears_all.Statement.{statement}
 use Rattle.separation.proofs.axes.clears_all.Tie as tie
@@ -53,17 +53,17 @@ returns-4 c = λ e.
     let D = s.args.d in
     let F = s.args.f in
     record {
-      at-d = cleared vs E D l _ c1.clears.ensures n (not-false c1.clears.result o1.before.if1.false);
-      back-d = cleared vs E D (neg_ℤ l) _ c2.clears2.ensures
-          (result-same w64 o1.opposite.result o1.opposite.type-inv (o1.opposite.ensures.0 ∙ ap neg_ℤ n))
+      at_d = cleared vs E D l _ c1.clears.ensures n (not-false c1.clears.result o1.before.if1.false);
+      back_d = cleared vs E D (neg_ℤ l) _ c2.clears2.ensures
+          (result_same w64 o1.opposite.result o1.opposite.type-inv (o1.opposite.ensures.0 ∙ ap neg_ℤ n))
           (not-false c2.clears2.result c3.before.if2.false);
       at_f = cleared vs E F l _ c3.clears3.ensures n (not-false c3.clears3.result o2.before.if3.false);
       back_f = cleared vs E F (neg_ℤ l) _ c.clears4.ensures
-          (result-same w64 o2.opposite2.result o2.opposite2.type-inv (o2.opposite2.ensures.0 ∙ ap neg_ℤ n)) e;
+          (result_same w64 o2.opposite2.result o2.opposite2.type-inv (o2.opposite2.ensures.0 ∙ ap neg_ℤ n)) e;
     }
 
-pub clears-all-spec : {M : Type 1} → statement M
-clears-all-spec =
+pub clears_all_spec : {M : Type 1} → statement M
+clears_all_spec =
     tie.close
     (tie.spec
     clears-requires

@@ -1,7 +1,7 @@
 -- `clears_any` meets its contract.
 use Rattle.std.proofs.Common.{◌≡◌, neg_ℤ, ap, ◌∙◌, inl, inr, w64, to_z, of_z, rules}
 use mir.ValLaws.{to_z-of_z}
-use Rattle.integers.proofs.Compare.{result-same}
+use Rattle.integers.proofs.Compare.{result_same}
 use Rattle.separation.proofs.Laws.Cleared.{cleared}
 use Rattle.separation.proofs.axes.clears_any.Statement.{statement}
 use Rattle.separation.proofs.axes.clears_any.Tie as tie
@@ -30,7 +30,7 @@ returns-2 c = λ e.
     let s = o.before.before.before in
     inl (inr (cleared s.args.vertices.now s.args.e s.args.d (neg_ℤ s.args.l) _
     c.before.clears2.ensures
-    (result-same w64 o.opposite.result o.opposite.type-inv (o.opposite.ensures.0 ∙ ap neg_ℤ (number s)))
+    (result_same w64 o.opposite.result o.opposite.type-inv (o.opposite.ensures.0 ∙ ap neg_ℤ (number s)))
     c.if2.true))
 
 clears-requires-3 : tie.Need-clears-requires-3
@@ -54,10 +54,10 @@ returns-4 c = λ e.
     let s = o.before.before.before.before.before.before.before.before in
     inr (inr (cleared s.args.vertices.now s.args.e s.args.f (neg_ℤ s.args.l) _
     c.clears4.ensures
-    (result-same w64 o.opposite2.result o.opposite2.type-inv (o.opposite2.ensures.0 ∙ ap neg_ℤ (number s))) e))
+    (result_same w64 o.opposite2.result o.opposite2.type-inv (o.opposite2.ensures.0 ∙ ap neg_ℤ (number s))) e))
 
-pub clears-any-spec : {M : Type 1} → statement M
-clears-any-spec =
+pub clears_any_spec : {M : Type 1} → statement M
+clears_any_spec =
     tie.close
     (tie.spec
     clears-requires

@@ -2,7 +2,7 @@
 use Rattle.std.proofs.Common.{◌≡◌, ◌≤◌, ℤ, pos, ◌-ℤ◌, neg_ℤ, nat_abs, sym, ◌∙◌, subst, le_refl}
 use Rattle.integers.proofs.Polynomial.{con, neg}
 use Rattle.integers.proofs.Identity.{◌:-◌, ◌:=◌, ints}
-use Rattle.integers.proofs.Range.{Formula, number, ◌⊖◌, formula-fits, formula-same, formula-is}
+use Rattle.integers.proofs.Range.{Formula, number, ◌⊖◌, formula_fits, formula_same, formula_is}
 use Rattle.sphere.specs.Point.{Fits}
 use Rattle.separation.specs.Axes.{unit}
 use Rattle.separation.proofs.axes.opposite.Statement.{statement}
@@ -11,17 +11,17 @@ use Rattle.separation.proofs.axes.opposite.Tie as tie
 abbrev from_zero : (k : ℤ) → Fits unit k → Formula
 from_zero k f = number (pos 0) 0 (le_refl 0) ⊖ number k unit f.within
 
-zero-less : (k : ℤ) → pos 0 -ℤ k ≡ neg_ℤ k
-zero-less = ints 1 (λ k. con (pos 0) :- k := neg k) tt
+zero_less : (k : ℤ) → pos 0 -ℤ k ≡ neg_ℤ k
+zero_less = ints 1 (λ k. con (pos 0) :- k := neg k) tt
 
 sub-result : tie.Need-overflow-sub-result
-sub-result c = formula-fits (from_zero c.args.l c.requires) tt
+sub-result c = formula_fits (from_zero c.args.l c.requires) tt
 
 returns : tie.Need-returns
 returns c =
     let k = from_zero c.args.l c.requires in
-    let same = formula-same k tt in
-    (same ∙ zero-less c.args.l, record { within = subst (λ z. nat_abs z ≤ unit) (sym same) (formula-is k tt).size })
+    let same = formula_same k tt in
+    (same ∙ zero_less c.args.l, record { within = subst (λ z. nat_abs z ≤ unit) (sym same) (formula_is k tt).size })
 
-pub opposite-spec : {M : Type 1} → statement M
-opposite-spec = tie.close (tie.spec sub-result returns)
+pub opposite_spec : {M : Type 1} → statement M
+opposite_spec = tie.close (tie.spec sub-result returns)

@@ -33,8 +33,8 @@ loop-again c = search rules
 returns-2 : tie.Need-returns-2 invariant-loop decreases-loop
 returns-2 c = search rules
 
-pub least-ratio-spec : {M : Type 1} → statement M
-least-ratio-spec =
+pub least_ratio_spec : {M : Type 1} → statement M
+least_ratio_spec =
     tie.close
     (tie.spec
     invariant-loop

@@ -42,8 +42,8 @@ loop-again c = search rules
 returns : tie.Need-returns invariant-loop decreases-loop
 returns c = search rules
 
-pub least-share-spec : {M : Type 1} → statement M
-least-share-spec =
+pub least_share_spec : {M : Type 1} → statement M
+least_share_spec =
     tie.close
     (tie.spec
     invariant-loop

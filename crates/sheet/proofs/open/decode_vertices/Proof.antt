@@ -5,16 +5,16 @@ use Prim.Native.Nat.{ℕ, ◌+◌, ◌*◌}
 use native.Mathlib.Omega.{arith}
 use borrow.Author.Rules.{rules}
 use lib.ListN.{drop}
-use Rattle.big_endian.specs.Bytes.{intsAt}
-use Rattle.fields.specs.Fields.{verticesStart}
-use Rattle.fields.proofs.Laws.Fields.{Spans, passed-spans}
+use Rattle.big_endian.specs.Bytes.{ints_at}
+use Rattle.fields.specs.Fields.{vertices_start}
+use Rattle.fields.proofs.Laws.Fields.{Spans, passed_spans}
 use Rattle.sheet.proofs.open.decode_vertices.Statement.{statement}
 use Rattle.sheet.proofs.open.decode_vertices.Tie as tie
 
 spans : (s : tie.Start) → Spans s.args.b.now
-spans s = passed-spans s.args.b.now s.requires.0.0
+spans s = passed_spans s.args.b.now s.requires.0.0
 
-at : (s : tie.Start) → 32 + s.args.name ≡ verticesStart s.args.b.now + 3
+at : (s : tie.Start) → 32 + s.args.name ≡ vertices_start s.args.b.now + 3
 at s = omega (arith, s.requires.0.1, (spans s).known_at)
 
 add-decode : tie.Need-overflow-add-decode
@@ -39,9 +39,9 @@ returns c =
     let i = c.before.before.before.before in
     let a = i.args in
     c.before.decode.ensures
-    ∙ ap₂ (λ (at k : ℕ). intsAt a.b.now at (k * 3) ++ drop (a.n * 3) a.out.now) (at i) i.requires.1.0
+    ∙ ap₂ (λ (at k : ℕ). ints_at a.b.now at (k * 3) ++ drop (a.n * 3) a.out.now) (at i) i.requires.1.0
 
-pub decode-vertices-spec : {M : Type 1} → statement M
-decode-vertices-spec =
+pub decode_vertices_spec : {M : Type 1} → statement M
+decode_vertices_spec =
     tie.close
     (tie.spec add-decode add-decode-2 mul-decode decode-requires same_length returns)

@@ -3,16 +3,16 @@ use mathlib.Core.Path.{◌≡◌, ap, ◌∙◌}
 use Prim.Native.Nat.{◌+◌}
 use native.Mathlib.Omega.{arith}
 use borrow.Author.Rules.{rules}
-use Rattle.big_endian.specs.Bytes.{pointAt}
-use Rattle.fields.specs.Fields.{knownStart}
-use Rattle.fields.proofs.Laws.Fields.{Spans, passed-spans}
+use Rattle.big_endian.specs.Bytes.{point_at}
+use Rattle.fields.specs.Fields.{known_start}
+use Rattle.fields.proofs.Laws.Fields.{Spans, passed_spans}
 use Rattle.sheet.proofs.open.known_point.Statement.{statement}
 use Rattle.sheet.proofs.open.known_point.Tie as tie
 
 spans : (s : tie.Start) → Spans s.args.b.now
-spans s = passed-spans s.args.b.now s.requires.0
+spans s = passed_spans s.args.b.now s.requires.0
 
-at : (s : tie.Start) → 17 + s.args.name ≡ knownStart s.args.b.now + 3
+at : (s : tie.Start) → 17 + s.args.name ≡ known_start s.args.b.now + 3
 at s = omega (arith, s.requires.1, (spans s).known_at)
 
 add-point-at : tie.Need-overflow-add-point-at
@@ -27,8 +27,8 @@ point-at-requires c κs = let s = spans c.before in let e = at c.before in omega
 returns : tie.Need-returns
 returns c =
     let s = c.before.before in
-    c.point_at.ensures ∙ ap (pointAt s.args.b.now) (at s)
+    c.point_at.ensures ∙ ap (point_at s.args.b.now) (at s)
 
-pub known-point-spec : {M : Type 1} → statement M
-known-point-spec =
+pub known_point_spec : {M : Type 1} → statement M
+known_point_spec =
     tie.close (tie.spec add-point-at add-point-at-2 point-at-requires returns)

@@ -5,20 +5,20 @@ use native.Mathlib.Omega.{arith}
 use borrow.Author.Rules.{rules}
 use lib.ListN.{length, take}
 use lib.Seq.{length-take-le}
-use Rattle.sphere.specs.Point.{limitOf}
+use Rattle.sphere.specs.Point.{limit_of}
 use Rattle.answer.specs.declared.Check.TheVariants.{Passed}
-use Rattle.polygon.specs.Checks.{acceptCheck}
-use Rattle.polygon.specs.Pair.{secondCheck}
-use Rattle.fields.specs.Fields.{gridOf, fiveFields}
-use Rattle.fields.proofs.Laws.Fields.{passed-spans}
+use Rattle.polygon.specs.Checks.{accept_check}
+use Rattle.polygon.specs.Pair.{second_check}
+use Rattle.fields.specs.Fields.{grid_of, five_fields}
+use Rattle.fields.proofs.Laws.Fields.{passed_spans}
 use Rattle.search.specs.Boxes.{Boxed}
-use Rattle.judging.specs.Accept.{boxedAfter}
-use Rattle.judging.proofs.Laws.Accept.{after-boxed}
-use Rattle.sheet.specs.Sheet.{known_of, verticesOf, plainCheck, sheetCheck}
-use Rattle.sheet.specs.Open.{openedAfter}
-use Rattle.sheet.proofs.Laws.Reads.{plain-passed, plain-five, second-absent, second-present, sheet-failed}
-use Rattle.sheet.proofs.Laws.Reads.{sheet-second, opened-check, opened-passed, opened-refused, opened-row}
-use Rattle.sheet.proofs.Laws.Reads.{opened-room}
+use Rattle.judging.specs.Accept.{boxed_after}
+use Rattle.judging.proofs.Laws.Accept.{after_boxed}
+use Rattle.sheet.specs.Sheet.{known_of, vertices_of, plain_check, sheet_check}
+use Rattle.sheet.specs.Open.{opened_after}
+use Rattle.sheet.proofs.Laws.Reads.{plain_passed, plain_five, second_absent, second_present, sheet_failed}
+use Rattle.sheet.proofs.Laws.Reads.{sheet_second, opened_check, opened_passed, opened_refused, opened_row}
+use Rattle.sheet.proofs.Laws.Reads.{opened_room}
 use Rattle.sheet.proofs.open.open_into.Statement.{statement}
 use Rattle.sheet.proofs.open.open_into.Tie as tie
 
@@ -27,39 +27,39 @@ abbrev start : tie.After-plain-into → tie.Start
 start p = p.before.before.before.before
 
 -- What the plain checks said.
-plain : (p : tie.After-plain-into) → plainCheck (start p).args.b.now ≡ p.plain-into.result.check
-plain p = sym (opened-check (start p).args.b.now (plainCheck (start p).args.b.now) p.plain-into.ensures.0)
+plain : (p : tie.After-plain-into) → plain_check (start p).args.b.now ≡ p.plain-into.result.check
+plain p = sym (opened_check (start p).args.b.now (plain_check (start p).args.b.now) p.plain-into.ensures.0)
 
 -- Where they passed.
 module _ (c : tie.After-enum-told) where
   abbrev opened : tie.After-plain-into
   opened = c.before.before.before.before
 
-  passed : plainCheck (start opened).args.b.now ≡ Passed
+  passed : plain_check (start opened).args.b.now ≡ Passed
   passed = plain opened ∙ c.enum_told.given.1
 
-  sound : fiveFields (start opened).args.b.now ≡ Passed
-  sound = plain-five _ passed
+  sound : five_fields (start opened).args.b.now ≡ Passed
+  sound = plain_five _ passed
 
-  points : opened.plain-into.result ≡ openedAfter Passed (start opened).args.b.now
-  points = opened-passed (start opened).args.b.now opened.plain-into.ensures.0 passed
+  points : opened.plain-into.result ≡ opened_after Passed (start opened).args.b.now
+  points = opened_passed (start opened).args.b.now opened.plain-into.ensures.0 passed
 
   few : opened.plain-into.result.count ≤ 4096
   few =
-      let spans = passed-spans (start opened).args.b.now sound in
+      let spans = passed_spans (start opened).args.b.now sound in
       let count = ap (λ o. o.count) points in
       omega (arith, count, spans.row.high)
 
   -- The part of the scratch space that holds the polygon, and that it is there.
   row : take (opened.plain-into.result.count * 3) opened.plain-into.last.1.0
-      ≡ verticesOf (start opened).args.b.now
+      ≡ vertices_of (start opened).args.b.now
   row =
-      opened-row _ (start opened).args.scratch.now (plain-passed _ passed).0 opened.plain-into.ensures.1.0
+      opened_row _ (start opened).args.scratch.now (plain_passed _ passed).0 opened.plain-into.ensures.1.0
       (ap (λ o. o.count) points)
 
   room : opened.plain-into.result.count * 3 ≤ length opened.plain-into.last.1.0
   room =
-      opened-room _ (start opened).args.scratch.now (plain-passed _ passed).0 opened.plain-into.ensures.1.0
+      opened_room _ (start opened).args.scratch.now (plain_passed _ passed).0 opened.plain-into.ensures.1.0
       (ap (λ o. o.count) points)
 
 plain-into-requires : tie.Need-plain-into-requires
@@ -82,7 +82,7 @@ returns c =
     let p = c.before.before.before.before in
     let b = (start p).args.b.now in
     let e = plain p ∙ c.enum-told2.given.1 in
-    (p.plain-into.ensures.0 ∙ ap (λ k. openedAfter k b) (e ∙ sym (sheet-failed b e)), p.plain-into.ensures.1)
+    (p.plain-into.ensures.0 ∙ ap (λ k. opened_after k b) (e ∙ sym (sheet_failed b e)), p.plain-into.ensures.1)
 
 mul-size : tie.Need-overflow-mul-size
 mul-size c = record { fits = omega (arith, few c.before.before) }
@@ -99,28 +99,28 @@ second-check-requires c κs =
     let p = opened t in
     let s = start p in
     let b = s.args.b.now in
-    let ok = (plain-passed b (passed t)).1 in
+    let ok = (plain_passed b (passed t)).1 in
     let e = points t in
     let filled = p.plain-into.ensures.1.1
-    ∙ ap (λ k. boxedAfter k (verticesOf b) s.args.boxes.now) (passed t) in (
-      (λ j. acceptCheck (limitOf (e j).grid) (row t j) (e j).known) ∙ ok,
-      rw (row t) (subst (Boxed (verticesOf b)) (sym filled)
-          (after-boxed (limitOf (gridOf b)) (verticesOf b) (known_of b) _ ok (s.pre.1.enough (sound t)))),
+    ∙ ap (λ k. boxed_after k (vertices_of b) s.args.boxes.now) (passed t) in (
+      (λ j. accept_check (limit_of (e j).grid) (row t j) (e j).known) ∙ ok,
+      rw (row t) (subst (Boxed (vertices_of b)) (sym filled)
+          (after_boxed (limit_of (grid_of b)) (vertices_of b) (known_of b) _ ok (s.pre.1.enough (sound t)))),
     )
 
 -- What the second point's check says.
 checked : (c : tie.After-second-check) →
     let t = c.before.before.before.before.before in
-    sheetCheck (start (opened t)).args.b.now ≡ c.second-check.result
+    sheet_check (start (opened t)).args.b.now ≡ c.second-check.result
 checked c =
     let i = c.before.before.before.before in
     let t = i.before in
     let b = (start (opened t)).args.b.now in
     let e = points t in
     let has = sym (ap (λ o. o.has_second) e) ∙ i.if1.true in
-    sheet-second b (passed t) ∙ (second-present b has).1
+    sheet_second b (passed t) ∙ (second_present b has).1
     ∙ sym (c.second-check.ensures
-    ∙ (λ j. secondCheck (limitOf (e j).grid) (row t j) (e j).known (e j).second))
+    ∙ (λ j. second_check (limit_of (e j).grid) (row t j) (e j).known (e j).second))
 
 enum-told-3 : tie.Need-enum-told-3
 enum-told-3 c = search rules
@@ -143,7 +143,7 @@ returns-2 c =
     let t = k.before.before.before.before.before in
     let b = (start (opened t)).args.b.now in
     let ok = checked k ∙ c.enum-told3.given.1 in
-    (points t ∙ sym (ap (λ k. openedAfter k b) ok), (opened t).plain-into.ensures.1)
+    (points t ∙ sym (ap (λ k. opened_after k b) ok), (opened t).plain-into.ensures.1)
 
 same-length-5 : tie.Need-same-length-5
 same-length-5 c = search rules
@@ -157,7 +157,7 @@ returns-3 c =
     let t = k.before.before.before.before.before in
     let b = (start (opened t)).args.b.now in
     let e = checked k ∙ c.before.before.number.given.1 in
-    (opened-refused b c.refused.ensures e, (opened t).plain-into.ensures.1)
+    (opened_refused b c.refused.ensures e, (opened t).plain-into.ensures.1)
 
 same-length-7 : tie.Need-same-length-7
 same-length-7 c = search rules
@@ -171,11 +171,11 @@ returns-4 c =
     let p = opened t in
     let b = (start p).args.b.now in
     let none = sym (ap (λ o. o.has_second) (points t)) ∙ c.if1.false in
-    let ok = sheet-second b (passed t) ∙ (second-absent b none).1 in
-    (points t ∙ sym (ap (λ k. openedAfter k b) ok), p.plain-into.ensures.1)
+    let ok = sheet_second b (passed t) ∙ (second_absent b none).1 in
+    (points t ∙ sym (ap (λ k. opened_after k b) ok), p.plain-into.ensures.1)
 
-pub open-into-spec : {M : Type 1} → statement M
-open-into-spec =
+pub open_into_spec : {M : Type 1} → statement M
+open_into_spec =
     tie.close
     (tie.spec
     plain-into-requires

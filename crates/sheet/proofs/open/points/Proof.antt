@@ -2,12 +2,12 @@
 use mathlib.Core.Path.{◌≡◌, ap}
 use Prim.Native.Nat.{◌/◌}
 use Rattle.answer.specs.declared.Check.TheVariants.{Passed}
-use Rattle.fields.proofs.Laws.Fields.{five-passed}
+use Rattle.fields.proofs.Laws.Fields.{five_passed}
 use Rattle.sheet.proofs.open.points.Statement.{statement}
 use Rattle.sheet.proofs.open.points.Tie as tie
 
 known-point-requires : tie.Need-known-point-requires
-known-point-requires c κs = let s = c.before in (five-passed _ s.requires.0, ap (λ p. p.name) s.requires.1)
+known-point-requires c κs = let s = c.before in (five_passed _ s.requires.0, ap (λ p. p.name) s.requires.1)
 
 second-point-requires : tie.Need-second-point-requires
 second-point-requires c κs = c.before.before.requires
@@ -27,5 +27,5 @@ returns c =
       name = (e i).name;
     }
 
-pub points-spec : {M : Type 1} → statement M
-points-spec = tie.close (tie.spec known-point-requires second-point-requires returns)
+pub points_spec : {M : Type 1} → statement M
+points_spec = tie.close (tie.spec known-point-requires second-point-requires returns)

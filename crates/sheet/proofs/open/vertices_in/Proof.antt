@@ -4,17 +4,17 @@ use Prim.Native.Nat.{ℕ, ◌+◌, ◌*◌, ◌-◌, ◌≤◌}
 use native.Mathlib.Omega.{arith}
 use borrow.Author.Rules.{rules}
 use lib.ListN.{length, take, drop}
-use Rattle.fields.specs.Fields.{verticesStart}
-use Rattle.fields.proofs.Laws.Fields.{Spans, passed-spans}
-use Rattle.sheet.specs.Sheet.{vertexCountOf}
+use Rattle.fields.specs.Fields.{vertices_start}
+use Rattle.fields.proofs.Laws.Fields.{Spans, passed_spans}
+use Rattle.sheet.specs.Sheet.{vertex_count_of}
 use Rattle.sheet.proofs.open.vertices_in.Statement.{statement}
 use Rattle.sheet.proofs.open.vertices_in.Tie as tie
 
 spans : (s : tie.Start) → Spans s.args.b.now
-spans s = passed-spans s.args.b.now s.requires.0.0
+spans s = passed_spans s.args.b.now s.requires.0.0
 
 -- Where they begin, and that they end within the sheet.
-at : (s : tie.Start) → 32 + s.args.name ≡ verticesStart s.args.b.now + 3
+at : (s : tie.Start) → 32 + s.args.name ≡ vertices_start s.args.b.now + 3
 at s = omega (arith, s.requires.0.1, (spans s).known_at)
 
 within : (s : tie.Start) → 32 + s.args.name + s.args.count * 12 ≤ length s.args.b.now
@@ -46,11 +46,11 @@ returns c =
     let s = c.before in
     let b = s.args.b.now in
     let from = 32 + s.args.name in
-    let size : from + s.args.count * 12 - from ≡ vertexCountOf b * 12 = omega (arith, s.requires.1) in
+    let size : from + s.args.count * 12 - from ≡ vertex_count_of b * 12 = omega (arith, s.requires.1) in
     ap₂ (λ (k at : ℕ). take k (drop at b)) size (at s)
 
-pub vertices-in-spec : {M : Type 1} → statement M
-vertices-in-spec =
+pub vertices_in_spec : {M : Type 1} → statement M
+vertices_in_spec =
     tie.close
     (tie.spec
     add_at

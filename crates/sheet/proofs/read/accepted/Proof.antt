@@ -4,13 +4,13 @@ use native.Mathlib.Omega.{arith}
 use borrow.Author.Rules.{rules}
 use lib.ListN.{length}
 use Rattle.answer.specs.declared.Answer.TheVariants.{Done}
-use Rattle.fields.proofs.Laws.Fields.{Spans, passed-spans, five-passed}
-use Rattle.sheet.specs.Sheet.{nameAt}
+use Rattle.fields.proofs.Laws.Fields.{Spans, passed_spans, five_passed}
+use Rattle.sheet.specs.Sheet.{name_at}
 use Rattle.sheet.proofs.read.accepted.Statement.{statement}
 use Rattle.sheet.proofs.read.accepted.Tie as tie
 
 spans : (c : tie.Start) → Spans c.args.b.now
-spans c = passed-spans c.args.b.now (five-passed _ c.requires.0)
+spans c = passed_spans c.args.b.now (five_passed _ c.requires.0)
 
 word-at-requires : tie.Need-word-at-requires
 word-at-requires c κs = let s = spans c.before.before.before in omega arith
@@ -33,7 +33,7 @@ returns c =
       answer = Done (length s.args.b.now);
       zone = w.word_at.ensures i;
       charset = c.byte_at.ensures i;
-      name_at = nameAt;
+      name_at = name_at;
       name_len = (e i).name;
       known = (e i).known;
       vertex_count = (e i).count;
@@ -41,6 +41,6 @@ returns c =
       grid = (e i).grid;
     }
 
-pub accepted-spec : {M : Type 1} → statement M
-accepted-spec =
+pub accepted_spec : {M : Type 1} → statement M
+accepted_spec =
     tie.close (tie.spec word-at-requires add-byte-at byte-at-requires add-t11 returns)

@@ -25,5 +25,5 @@ returns c =
     rw c.before.before.put-head.ensures
     (field_stored s.b.now 7 10 2 1 (s.charset ∷ []) (omega arith) refl)
 
-pub put-charset-spec : {M : Type 1} → statement M
-put-charset-spec = tie.close (tie.spec put-head-requires cast-b slice-write-b same_length returns)
+pub put_charset_spec : {M : Type 1} → statement M
+put_charset_spec = tie.close (tie.spec put-head-requires cast-b slice-write-b same_length returns)

@@ -22,6 +22,6 @@ same_length c = c.before.before.put-short.auto.0 ∙ simp length-set
 returns : tie.Need-returns
 returns c = rw add-one at c.before.before.put-short.ensures
 
-pub put-head-spec : {M : Type 1} → statement M
-put-head-spec =
+pub put_head_spec : {M : Type 1} → statement M
+put_head_spec =
     tie.close (tie.spec slice-write-b add-put-short put-short-requires same_length returns)

@@ -26,6 +26,6 @@ returns c =
     (rw h at c.before.before.put-bytes.ensures)
     ∙ field_stored s.b.now 11 14 3 (length s.name.now) s.name.now (omega arith) (refl)
 
-pub put-name-spec : {M : Type 1} → statement M
-put-name-spec =
+pub put_name_spec : {M : Type 1} → statement M
+put_name_spec =
     tie.close (tie.spec cast-put-head put-head-requires put-bytes-requires same_length returns)

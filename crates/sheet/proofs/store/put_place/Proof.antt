@@ -3,8 +3,8 @@ use mathlib.Core.Path.{◌∙◌, sym}
 use Prim.Native.Nat.{◌+◌}
 use native.Mathlib.Omega.{arith}
 use borrow.Author.Rules.{rules}
-use Rattle.big_endian.specs.Bytes.{numbersOf, pointBytes}
-use Rattle.big_endian.proofs.Laws.Stores.{intsBytes-length}
+use Rattle.big_endian.specs.Bytes.{numbers_of, point_bytes}
+use Rattle.big_endian.proofs.Laws.Stores.{ints_bytes-length}
 use Rattle.sheet.proofs.Laws.Stores.{field_stored}
 use Rattle.sheet.proofs.store.put_place.Statement.{statement}
 use Rattle.sheet.proofs.store.put_place.Tie as tie
@@ -26,9 +26,9 @@ returns c =
     let s = c.before.before.before.before.before.before.before.before.before.args in
     let h = c.before.before.before.before.before.before.put-head.ensures in
     (rw h at c.before.before.put-point.ensures)
-    ∙ field_stored s.b.now s.at (s.at + 3) s.tag 12 (pointBytes s.p)
-    (omega arith) (sym (intsBytes-length (numbersOf s.p)))
+    ∙ field_stored s.b.now s.at (s.at + 3) s.tag 12 (point_bytes s.p)
+    (omega arith) (sym (ints_bytes-length (numbers_of s.p)))
 
-pub put-place-spec : {M : Type 1} → statement M
-put-place-spec =
+pub put_place_spec : {M : Type 1} → statement M
+put_place_spec =
     tie.close (tie.spec put-head-requires add-put-point put-point-requires same_length returns)

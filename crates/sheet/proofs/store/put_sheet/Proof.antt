@@ -1,7 +1,7 @@
 -- `store::put_sheet` meets its contract.
 use mathlib.Core.Path.{refl, ◌∙◌}
 use borrow.Author.Rules.{rules}
-use Rattle.sheet.proofs.Laws.Stores.{sheet-stored}
+use Rattle.sheet.proofs.Laws.Stores.{sheet_stored}
 use Rattle.sheet.proofs.store.put_sheet.Statement.{statement}
 use Rattle.sheet.proofs.store.put_sheet.Tie as tie
 
@@ -55,11 +55,11 @@ returns c =
     let e4 = rw e3 at c4.put-place.ensures in
     let e5 = rw e4 at c5.put-vertices.ensures in
     (rw e5 at c6.put_second.ensures)
-    ∙ sheet-stored s.zone s.charset s.name.now s.known s.grid s.vertices.now s.second s.b.now
+    ∙ sheet_stored s.zone s.charset s.name.now s.known s.grid s.vertices.now s.second s.b.now
     _ _ _ refl refl refl
 
-pub put-sheet-spec : {M : Type 1} → statement M
-put-sheet-spec =
+pub put_sheet_spec : {M : Type 1} → statement M
+put_sheet_spec =
     tie.close
     (tie.spec
     put-zone-requires

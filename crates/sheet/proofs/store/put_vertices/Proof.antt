@@ -4,8 +4,8 @@ use Prim.Native.Nat.{◌+◌, ◌*◌}
 use native.Mathlib.Omega.{arith}
 use borrow.Author.Rules.{rules}
 use lib.ListN.{length}
-use Rattle.big_endian.specs.Bytes.{intsBytes}
-use Rattle.big_endian.proofs.Laws.Stores.{intsBytes-length}
+use Rattle.big_endian.specs.Bytes.{ints_bytes}
+use Rattle.big_endian.proofs.Laws.Stores.{ints_bytes-length}
 use Rattle.fields.specs.Fields.{tag_of}
 use Rattle.sheet.proofs.Laws.Stores.{field_stored}
 use Rattle.sheet.proofs.store.put_vertices.Statement.{statement}
@@ -39,11 +39,11 @@ returns c =
     let h = rw p.before.tag.ensures at p.put-head.ensures in
     (rw h at c.before.before.put-ints.ensures)
     ∙ field_stored s.b.now s.at (s.at + 3) (tag_of s.grid) (length s.vertices.now * 4)
-    (intsBytes s.vertices.now)
-    (omega arith) (sym (intsBytes-length s.vertices.now))
+    (ints_bytes s.vertices.now)
+    (omega arith) (sym (ints_bytes-length s.vertices.now))
 
-pub put-vertices-spec : {M : Type 1} → statement M
-put-vertices-spec =
+pub put_vertices_spec : {M : Type 1} → statement M
+put_vertices_spec =
     tie.close
     (tie.spec
     tag-requires

@@ -3,7 +3,7 @@ use mathlib.Core.Path.{◌∙◌, sym}
 use native.Mathlib.Omega.{arith}
 use borrow.Author.Rules.{rules}
 use Rattle.big_endian.specs.Bytes.{word_bytes}
-use Rattle.sheet.proofs.Laws.Stores.{field_stored, wordBytes-length}
+use Rattle.sheet.proofs.Laws.Stores.{field_stored, word_bytes_length}
 use Rattle.sheet.proofs.store.put_zone.Statement.{statement}
 use Rattle.sheet.proofs.store.put_zone.Tie as tie
 
@@ -21,7 +21,7 @@ returns c =
     let s = c.before.before.before.before.before.before.before.before.before.args in
     let h = c.before.before.before.before.before.before.put-head.ensures in
     (rw h at c.before.before.put_word.ensures)
-    ∙ field_stored s.b.now 0 3 1 4 (word_bytes s.zone) (omega arith) (sym (wordBytes-length s.zone))
+    ∙ field_stored s.b.now 0 3 1 4 (word_bytes s.zone) (omega arith) (sym (word_bytes_length s.zone))
 
-pub put-zone-spec : {M : Type 1} → statement M
-put-zone-spec = tie.close (tie.spec put-head-requires put-word-requires same_length returns)
+pub put_zone_spec : {M : Type 1} → statement M
+put_zone_spec = tie.close (tie.spec put-head-requires put-word-requires same_length returns)

@@ -5,9 +5,9 @@ use mathlib.Core.List.{[], ◌∷◌}
 use borrow.Author.Tests.{not-true, not-false}
 use borrow.Author.Rules.{rules}
 use lib.ListN.{length}
-use Rattle.polygon.specs.Grids.{isMixed, gridCheck, gridOfSecond}
-use Rattle.fields.specs.Fields.{isAllowed, isCharset}
-use Rattle.sheet.specs.Write.{inputCheck}
+use Rattle.polygon.specs.Grids.{is_mixed, grid_check, grid_of_second}
+use Rattle.fields.specs.Fields.{is_allowed, is_charset}
+use Rattle.sheet.specs.Write.{input_check}
 use Rattle.sheet.proofs.write.input_check.Statement.{statement}
 use Rattle.sheet.proofs.write.input_check.Tie as tie
 
@@ -15,7 +15,7 @@ is-charset-requires : tie.Need-is-charset-requires
 is-charset-requires c κs = search rules
 
 returns : tie.Need-returns
-unfolding inputCheck
+unfolding input_check
 returns c =
     let k = sym c.before.is-charset.ensures ∙ not-true _ c.if1.true in
     rw k
@@ -24,7 +24,7 @@ is-allowed-requires : tie.Need-is-allowed-requires
 is-allowed-requires c κs = search rules
 
 returns-2 : tie.Need-returns-2
-unfolding inputCheck
+unfolding input_check
 returns-2 c =
     let k = sym c.before.before.before.is-charset.ensures ∙ not-false _ c.before.before.if1.false in
     let n = sym c.before.is-allowed.ensures ∙ not-true _ c.if2.true in
@@ -56,25 +56,25 @@ module _ (k : tie.After-grid-check) where
   abbrev start : tie.Start
   start = coding.before.before.before
 
-  coded : isCharset start.args.charset ≡ true
+  coded : is_charset start.args.charset ≡ true
   coded = sym coding.before.is-charset.ensures ∙ not-false _ coding.if1.left
 
-  named : isAllowed 1 120 1 (length start.args.name.now) ≡ true
+  named : is_allowed 1 120 1 (length start.args.name.now) ≡ true
   named = sym short.before.is-allowed.ensures ∙ not-false _ short.if2.left
 
   checked :
       let a = start.args in
-      gridCheck a.vertices.now (isMixed a.grid (a.known.grid ∷ gridOfSecond a.grid a.second ∷ []))
+      grid_check a.vertices.now (is_mixed a.grid (a.known.grid ∷ grid_of_second a.grid a.second ∷ []))
       ≡ k.grid-check.result
   checked =
       let a = start.args in
       let second = k.before.before.grid-of-second.ensures in
       sym (k.grid-check.ensures
-      ∙ ap (gridCheck a.vertices.now) (k.before.is-mixed.ensures
-      ∙ ap (λ h. isMixed a.grid (a.known.grid ∷ h ∷ [])) second))
+      ∙ ap (grid_check a.vertices.now) (k.before.is-mixed.ensures
+      ∙ ap (λ h. is_mixed a.grid (a.known.grid ∷ h ∷ [])) second))
 
 returns-3 : tie.Need-returns-3
-unfolding inputCheck
+unfolding input_check
 returns-3 c =
     let k = c.before.before.before in rw (coded k, named k, checked k ∙ c.before.number.given.1)
 
@@ -82,13 +82,13 @@ optional-check-requires : tie.Need-optional-check-requires
 optional-check-requires c κs = search rules
 
 returns-4 : tie.Need-returns-4
-unfolding inputCheck
+unfolding input_check
 returns-4 c =
     let k = c.before.before.before in
     rw (coded k, named k, checked k ∙ c.before.enum_told.given.1) c.optional-check.ensures
 
-pub input-check-spec : {M : Type 1} → statement M
-input-check-spec =
+pub input_check_spec : {M : Type 1} → statement M
+input_check_spec =
     tie.close
     (tie.spec
     is-charset-requires

@@ -1,7 +1,7 @@
 -- `books::spg_book_boundary` meets its contract.
 use mathlib.Core.Path.{◌∙◌, ap}
 use borrow.Author.Rules.{rules}
-use Rattle.spargolutta.proofs.Handed.{handed-zones}
+use Rattle.spargolutta.proofs.Handed.{handed_zones}
 use Rattle.spargolutta.proofs.books.spg_book_boundary.Statement.{statement}
 use Rattle.spargolutta.proofs.books.spg_book_boundary.Tie as tie
 
@@ -14,7 +14,7 @@ returns c =
     let f = start.ranges in
     ap (λ w. w.sets.boundary)
     (c.which-zones.ensures
-    ∙ handed-zones start.args.book.now start.args.grid _ _ _ f.x f.y f.z)
+    ∙ handed_zones start.args.book.now start.args.grid _ _ _ f.x f.y f.z)
 
-pub spg-book-boundary-spec : {M : Type 1} → statement M
-spg-book-boundary-spec = tie.close (tie.spec which-zones-requires returns)
+pub spg_book_boundary_spec : {M : Type 1} → statement M
+spg_book_boundary_spec = tie.close (tie.spec which-zones-requires returns)

@@ -1,7 +1,7 @@
 -- `books::spg_book_next_count` meets its contract.
 use mathlib.Core.Path.{◌∙◌, ap}
 use borrow.Author.Rules.{rules}
-use Rattle.book.specs.Step.{stepCountOf}
+use Rattle.book.specs.Step.{step_count_of}
 use Rattle.spargolutta.proofs.books.spg_book_next_count.Statement.{statement}
 use Rattle.spargolutta.proofs.books.spg_book_next_count.Tie as tie
 
@@ -12,7 +12,7 @@ count-requires : tie.Need-count-requires
 count-requires c κs = search rules
 
 returns : tie.Need-returns
-returns c = c.count.ensures ∙ ap stepCountOf c.before.step_from.ensures
+returns c = c.count.ensures ∙ ap step_count_of c.before.step_from.ensures
 
-pub spg-book-next-count-spec : {M : Type 1} → statement M
-spg-book-next-count-spec = tie.close (tie.spec step-from-requires count-requires returns)
+pub spg_book_next_count_spec : {M : Type 1} → statement M
+spg_book_next_count_spec = tie.close (tie.spec step-from-requires count-requires returns)

@@ -1,7 +1,7 @@
 -- `books::spg_book_next_place` meets its contract.
 use mathlib.Core.Path.{◌∙◌, ap}
 use borrow.Author.Rules.{rules}
-use Rattle.book.specs.Step.{stepPlaceOf}
+use Rattle.book.specs.Step.{step_place_of}
 use Rattle.spargolutta.proofs.books.spg_book_next_place.Statement.{statement}
 use Rattle.spargolutta.proofs.books.spg_book_next_place.Tie as tie
 
@@ -12,7 +12,7 @@ place-requires : tie.Need-place-requires
 place-requires c κs = search rules
 
 returns : tie.Need-returns
-returns c = c.place.ensures ∙ ap stepPlaceOf c.before.step_from.ensures
+returns c = c.place.ensures ∙ ap step_place_of c.before.step_from.ensures
 
-pub spg-book-next-place-spec : {M : Type 1} → statement M
-spg-book-next-place-spec = tie.close (tie.spec step-from-requires place-requires returns)
+pub spg_book_next_place_spec : {M : Type 1} → statement M
+spg_book_next_place_spec = tie.close (tie.spec step-from-requires place-requires returns)

@@ -1,7 +1,7 @@
 -- `books::spg_book_place` meets its contract.
 use mathlib.Core.Path.{◌∙◌, ap}
 use borrow.Author.Rules.{rules}
-use Rattle.spargolutta.proofs.Handed.{handed-zones}
+use Rattle.spargolutta.proofs.Handed.{handed_zones}
 use Rattle.spargolutta.proofs.books.spg_book_place.Statement.{statement}
 use Rattle.spargolutta.proofs.books.spg_book_place.Tie as tie
 
@@ -14,7 +14,7 @@ returns c =
     let f = start.ranges in
     ap (λ w. w.place)
     (c.which-zones.ensures
-    ∙ handed-zones start.args.book.now start.args.grid _ _ _ f.x f.y f.z)
+    ∙ handed_zones start.args.book.now start.args.grid _ _ _ f.x f.y f.z)
 
-pub spg-book-place-spec : {M : Type 1} → statement M
-spg-book-place-spec = tie.close (tie.spec which-zones-requires returns)
+pub spg_book_place_spec : {M : Type 1} → statement M
+spg_book_place_spec = tie.close (tie.spec which-zones-requires returns)

@@ -1,7 +1,7 @@
 -- `books::spg_book_refused` meets its contract.
 use mathlib.Core.Path.{◌∙◌, ap}
 use borrow.Author.Rules.{rules}
-use Rattle.spargolutta.proofs.Handed.{handed-zones}
+use Rattle.spargolutta.proofs.Handed.{handed_zones}
 use Rattle.spargolutta.proofs.books.spg_book_refused.Statement.{statement}
 use Rattle.spargolutta.proofs.books.spg_book_refused.Tie as tie
 
@@ -14,7 +14,7 @@ returns c =
     let f = start.ranges in
     ap (λ w. w.sets.refused)
     (c.which-zones.ensures
-    ∙ handed-zones start.args.book.now start.args.grid _ _ _ f.x f.y f.z)
+    ∙ handed_zones start.args.book.now start.args.grid _ _ _ f.x f.y f.z)
 
-pub spg-book-refused-spec : {M : Type 1} → statement M
-spg-book-refused-spec = tie.close (tie.spec which-zones-requires returns)
+pub spg_book_refused_spec : {M : Type 1} → statement M
+spg_book_refused_spec = tie.close (tie.spec which-zones-requires returns)

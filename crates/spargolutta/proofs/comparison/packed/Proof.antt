@@ -1,7 +1,7 @@
 -- `comparison::packed` meets its contract.
 use native.Mathlib.Omega.{arith}
 use borrow.Author.Rules.{rules}
-use Rattle.spargolutta.specs.Packed.{packedFrom, packedOf}
+use Rattle.spargolutta.specs.Packed.{packed_from, packed_of}
 use Rattle.spargolutta.proofs.comparison.packed.Statement.{statement}
 use Rattle.spargolutta.proofs.comparison.packed.Tie as tie
 
@@ -84,7 +84,7 @@ add-result-2 : tie.Need-overflow-add-result-2
 add-result-2 c = search rules
 
 returns : tie.Need-returns
-unfolding packedOf packedFrom
+unfolding packed_of packed_from
 returns c =
     let b = c.before.before.before.before.before in
     let first = c.before.byte6.ensures.0 in
@@ -96,8 +96,8 @@ returns c =
     let seventh = c.before.before.before.before.byte3.ensures.0 in
     omega arith
 
-pub packed-spec : {M : Type 1} → statement M
-packed-spec =
+pub packed_spec : {M : Type 1} → statement M
+packed_spec =
     tie.close
     (tie.spec
     array-read-byte

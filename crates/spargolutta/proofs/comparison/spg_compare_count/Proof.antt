@@ -10,5 +10,5 @@ compare-requires c κs = search rules
 returns : tie.Need-returns
 returns c = ap (λ r. r.count) c.compare.ensures
 
-pub spg-compare-count-spec : {M : Type 1} → statement M
-spg-compare-count-spec = tie.close (tie.spec compare-requires returns)
+pub spg_compare_count_spec : {M : Type 1} → statement M
+spg_compare_count_spec = tie.close (tie.spec compare-requires returns)

@@ -10,5 +10,5 @@ compare-requires c κs = search rules
 returns : tie.Need-returns
 returns c = ap (λ r. r.number) c.compare.ensures
 
-pub spg-compare-number-spec : {M : Type 1} → statement M
-spg-compare-number-spec = tie.close (tie.spec compare-requires returns)
+pub spg_compare_number_spec : {M : Type 1} → statement M
+spg_compare_number_spec = tie.close (tie.spec compare-requires returns)

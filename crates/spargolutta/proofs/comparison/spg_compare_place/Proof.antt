@@ -10,5 +10,5 @@ compare-requires c κs = search rules
 returns : tie.Need-returns
 returns c = ap (λ r. r.place) c.compare.ensures
 
-pub spg-compare-place-spec : {M : Type 1} → statement M
-spg-compare-place-spec = tie.close (tie.spec compare-requires returns)
+pub spg_compare_place_spec : {M : Type 1} → statement M
+spg_compare_place_spec = tie.close (tie.spec compare-requires returns)

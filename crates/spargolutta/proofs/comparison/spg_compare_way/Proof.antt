@@ -10,5 +10,5 @@ compare-requires c κs = search rules
 returns : tie.Need-returns
 returns c = ap (λ r. r.way) c.compare.ensures
 
-pub spg-compare-way-spec : {M : Type 1} → statement M
-spg-compare-way-spec = tie.close (tie.spec compare-requires returns)
+pub spg_compare_way_spec : {M : Type 1} → statement M
+spg_compare_way_spec = tie.close (tie.spec compare-requires returns)

@@ -29,6 +29,6 @@ returns-3 c =
     let s = c.before.before.before.before.args in
     rw (c.before.before.enum_told.given.1, le-ltb s.room (s.sheet.count * 12) (omega arith))
 
-pub fill-check-spec : {M : Type 1} → statement M
-fill-check-spec =
+pub fill_check_spec : {M : Type 1} → statement M
+fill_check_spec =
     tie.close (tie.spec enum_told enum-known-check returns mul-needed returns-2 returns-3)

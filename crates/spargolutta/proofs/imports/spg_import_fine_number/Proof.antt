@@ -5,7 +5,7 @@ use Rattle.sphere.specs.declared.point.Point.{Point}
 use Rattle.sphere.specs.declared.point.Grid.TheVariants.{Fine}
 use lib.ListN.{length}
 use Rattle.answer.specs.Answer.{number_of}
-use Rattle.geojson.specs.Import.{importOn, importedOn}
+use Rattle.geojson.specs.Import.{import_on, imported_on}
 use borrow.Author.Rules.{rules}
 use Rattle.spargolutta.proofs.imports.spg_import_fine_number.Statement.{statement}
 use Rattle.spargolutta.proofs.imports.spg_import_fine_number.Tie as tie
@@ -29,11 +29,11 @@ returns c =
     let f = c.before.before.before.import.ensures in
     let p = c.before.before.before.before.before.query.ensures ∙ handed _ _ _ g.x g.y g.z in (
       c.number.ensures
-          ∙ ap number_of (f.0 ∙ ap (λ (q : Point). importOn Fine i.text.now i.charset i.name.now q
+          ∙ ap number_of (f.0 ∙ ap (λ (q : Point). import_on Fine i.text.now i.charset i.name.now q
           (length i.sheet.now)) p),
-      f.1 ∙ ap (λ (q : Point). importedOn Fine i.zone i.text.now i.charset i.name.now q i.sheet.now) p,
+      f.1 ∙ ap (λ (q : Point). imported_on Fine i.zone i.text.now i.charset i.name.now q i.sheet.now) p,
     )
 
-pub spg-import-fine-number-spec : {M : Type 1} → statement M
-spg-import-fine-number-spec =
+pub spg_import_fine_number_spec : {M : Type 1} → statement M
+spg_import_fine_number_spec =
     tie.close (tie.spec query-requires import-requires number-requires same_length returns)

@@ -4,7 +4,7 @@ use Rattle.spargolutta.proofs.Handed.{handed}
 use Rattle.sphere.specs.declared.point.Point.{Point}
 use Rattle.sphere.specs.declared.point.Grid.TheVariants.{Fine}
 use Rattle.answer.specs.Answer.{place_of}
-use Rattle.geojson.specs.Import.{importOn}
+use Rattle.geojson.specs.Import.{import_on}
 use borrow.Author.Rules.{rules}
 use Rattle.spargolutta.proofs.imports.spg_import_fine_place.Statement.{statement}
 use Rattle.spargolutta.proofs.imports.spg_import_fine_place.Tie as tie
@@ -25,8 +25,8 @@ returns c =
     let p = c.before.before.query.ensures ∙ handed _ _ _ g.x g.y g.z in
     c.place.ensures
     ∙ ap place_of (c.before.import-answer.ensures
-    ∙ ap (λ (q : Point). importOn Fine i.text.now i.charset i.name.now q i.room) p)
+    ∙ ap (λ (q : Point). import_on Fine i.text.now i.charset i.name.now q i.room) p)
 
-pub spg-import-fine-place-spec : {M : Type 1} → statement M
-spg-import-fine-place-spec =
+pub spg_import_fine_place_spec : {M : Type 1} → statement M
+spg_import_fine_place_spec =
     tie.close (tie.spec query-requires import-answer-requires place-requires returns)

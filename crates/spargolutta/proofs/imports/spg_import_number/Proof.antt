@@ -4,7 +4,7 @@ use Rattle.spargolutta.proofs.Handed.{handed}
 use Rattle.sphere.specs.declared.point.Point.{Point}
 use lib.ListN.{length}
 use Rattle.answer.specs.Answer.{number_of}
-use Rattle.geojson.specs.Import.{importOf, importedTo}
+use Rattle.geojson.specs.Import.{import_of, imported_to}
 use borrow.Author.Rules.{rules}
 use Rattle.spargolutta.proofs.imports.spg_import_number.Statement.{statement}
 use Rattle.spargolutta.proofs.imports.spg_import_number.Tie as tie
@@ -28,11 +28,11 @@ returns c =
     let f = c.before.before.before.import.ensures in
     let p = c.before.before.before.before.before.query.ensures ∙ handed _ _ _ g.x g.y g.z in (
       c.number.ensures
-          ∙ ap number_of (f.0 ∙ ap (λ (q : Point). importOf i.text.now i.charset i.name.now q
+          ∙ ap number_of (f.0 ∙ ap (λ (q : Point). import_of i.text.now i.charset i.name.now q
           (length i.sheet.now)) p),
-      f.1 ∙ ap (λ (q : Point). importedTo i.zone i.text.now i.charset i.name.now q i.sheet.now) p,
+      f.1 ∙ ap (λ (q : Point). imported_to i.zone i.text.now i.charset i.name.now q i.sheet.now) p,
     )
 
-pub spg-import-number-spec : {M : Type 1} → statement M
-spg-import-number-spec =
+pub spg_import_number_spec : {M : Type 1} → statement M
+spg_import_number_spec =
     tie.close (tie.spec query-requires import-requires number-requires same_length returns)

@@ -3,7 +3,7 @@ use mathlib.Core.Path.{◌≡◌, refl, sym, ap, ◌∙◌}
 use Rattle.spargolutta.proofs.Handed.{handed}
 use Rattle.sphere.specs.declared.point.Point.{Point}
 use Rattle.answer.specs.Answer.{place_of}
-use Rattle.geojson.specs.Import.{importOf}
+use Rattle.geojson.specs.Import.{import_of}
 use borrow.Author.Rules.{rules}
 use Rattle.spargolutta.proofs.imports.spg_import_place.Statement.{statement}
 use Rattle.spargolutta.proofs.imports.spg_import_place.Tie as tie
@@ -24,8 +24,8 @@ returns c =
     let p = c.before.before.query.ensures ∙ handed _ _ _ g.x g.y g.z in
     c.place.ensures
     ∙ ap place_of (c.before.import-answer.ensures
-    ∙ ap (λ (q : Point). importOf i.text.now i.charset i.name.now q i.room) p)
+    ∙ ap (λ (q : Point). import_of i.text.now i.charset i.name.now q i.room) p)
 
-pub spg-import-place-spec : {M : Type 1} → statement M
-spg-import-place-spec =
+pub spg_import_place_spec : {M : Type 1} → statement M
+spg_import_place_spec =
     tie.close (tie.spec query-requires import-answer-requires place-requires returns)

@@ -1,11 +1,11 @@
 -- `imports::spg_point_on_y` meets its contract.
 use mathlib.Core.Path.{◌≡◌, refl, sym, ap, ◌∙◌}
-use Rattle.angles.proofs.Numbers.{handed, numbers_of}
+use Rattle.angles.proofs.Numbers.{handed, numbers_of_lem}
 use mir.Syntax.{w32}
 use mir.ValLaws.{to_z-of_z}
 use Rattle.angles.specs.declared.point.GridNumbers.{GridNumbers}
 use Rattle.angles.specs.declared.point.Position.{Position}
-use Rattle.degrees.specs.Points.{pointOn}
+use Rattle.degrees.specs.Points.{point_on}
 use borrow.Author.Rules.{rules}
 use Rattle.spargolutta.proofs.imports.spg_point_on_y.Statement.{statement}
 use Rattle.spargolutta.proofs.imports.spg_point_on_y.Tie as tie
@@ -16,10 +16,10 @@ point-on-requires c κs = search rules
 returns : tie.Need-returns
 returns c =
     let f = c.before.before.ranges in
-    let w = numbers_of c.before.point-on.result c.struct_told.given in
+    let w = numbers_of_lem c.before.point-on.result c.struct_told.given in
     to_z-of_z w32 _ w.at_y
     ∙ ap (λ (v : GridNumbers). v.y)
-    (c.before.point-on.ensures ∙ ap (λ (p : Position). pointOn p c.before.before.args.grid) (handed _ _ f.longitude f.latitude))
+    (c.before.point-on.ensures ∙ ap (λ (p : Position). point_on p c.before.before.args.grid) (handed _ _ f.longitude f.latitude))
 
-pub spg-point-on-y-spec : {M : Type 1} → statement M
-spg-point-on-y-spec = tie.close (tie.spec point-on-requires returns)
+pub spg_point_on_y_spec : {M : Type 1} → statement M
+spg_point_on_y_spec = tie.close (tie.spec point-on-requires returns)

@@ -14,5 +14,5 @@ returns-2 c =
     let h = c.if1.false in
     (rw (le-ltb c.before.args.number 37 (omega arith)), omega arith)
 
-pub index-spec : {M : Type 1} → statement M
-index-spec = tie.close (tie.spec returns returns-2)
+pub index_spec : {M : Type 1} → statement M
+index_spec = tie.close (tie.spec returns returns-2)

@@ -8,5 +8,5 @@ returns : tie.Need-returns
 unfolding letters rows
 returns c = refl
 
-pub letters-spec : {M : Type 1} → statement M
-letters-spec = tie.close (tie.spec returns)
+pub letters_spec : {M : Type 1} → statement M
+letters_spec = tie.close (tie.spec returns)

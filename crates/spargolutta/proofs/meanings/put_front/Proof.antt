@@ -4,7 +4,7 @@ use native.Mathlib.Omega.{arith}
 use borrow.Author.Rules.{rules}
 use lib.ListN.{length}
 use lib.Seq.{length-take-le}
-use Rattle.spargolutta.proofs.Texts.{front_cut, front-whole}
+use Rattle.spargolutta.proofs.Texts.{front_cut, front_whole}
 use Rattle.spargolutta.proofs.meanings.put_front.Statement.{statement}
 use Rattle.spargolutta.proofs.meanings.put_front.Tie as tie
 
@@ -36,10 +36,10 @@ returns-2 : tie.Need-returns-2
 returns-2 c =
     let i = c.before.before.before.before.before.before.before.args in
     let h = c.before.before.before.before.if1.false in
-    (refl, c.before.before.put-bytes2.ensures ∙ front-whole i.text.now i.row.now (omega arith))
+    (refl, c.before.before.put-bytes2.ensures ∙ front_whole i.text.now i.row.now (omega arith))
 
-pub put-front-spec : {M : Type 1} → statement M
-put-front-spec =
+pub put_front_spec : {M : Type 1} → statement M
+put_front_spec =
     tie.close
     (tie.spec
     slice-aggregate-put-bytes

@@ -5,8 +5,8 @@ use Prim.Native.Nat.{ℕ, ◌+◌, ◌-◌, ◌≤◌}
 use native.Mathlib.Omega.{arith}
 use borrow.Author.Rules.{rules}
 use lib.ListN.{length, take, drop}
-use Rattle.spargolutta.specs.Meanings.{frontOf, text_of, textTo}
-use Rattle.spargolutta.proofs.Texts.{text-part, text-within, letters-length}
+use Rattle.spargolutta.specs.Meanings.{front_of, text_of, text_to}
+use Rattle.spargolutta.proofs.Texts.{text_part, text_within, letters_length}
 use Rattle.spargolutta.proofs.meanings.spg_meaning_text.Statement.{statement}
 use Rattle.spargolutta.proofs.meanings.spg_meaning_text.Tie as tie
 
@@ -20,7 +20,7 @@ add-end : tie.Need-overflow-add-end
 add-end c =
     let n = c.before.before.before.args.number in
     let start = c.before.text-start.ensures in
-    record { fits = omega (arith, c.text-size.ensures, start, text-within n, letters-length) }
+    record { fits = omega (arith, c.text-size.ensures, start, text_within n, letters_length) }
 
 letters-requires : tie.Need-letters-requires
 letters-requires c κs = search rules
@@ -43,7 +43,7 @@ part-put-front-end c =
       start.text-start.ensures,
       size.text-size.ensures,
       ap length all.letters.ensures,
-      text-within n,
+      text_within n,
     ) in
     h
 
@@ -54,7 +54,7 @@ same_length : tie.Need-same-length
 same_length c = search rules
 
 returns : tie.Need-returns
-unfolding textTo
+unfolding text_to
 returns c =
     let p = c.before.before in
     let all = p.before.before.before.before in
@@ -65,13 +65,13 @@ returns c =
     let n = length (text_of i.number) in
     let whole : at + size.text-size.result - at ≡ n = omega (arith, size.text-size.ensures) in
     let first = start.text-start.ensures in
-    let row = (λ j. take (whole j) (drop (first j) (all.letters.ensures j))) ∙ text-part i.number in (
+    let row = (λ j. take (whole j) (drop (first j) (all.letters.ensures j))) ∙ text_part i.number in (
       p.put_front.ensures.0 ∙ ap length row,
-      p.put_front.ensures.1 ∙ ap (λ (l : List ℕ). frontOf l i.text.now) row,
+      p.put_front.ensures.1 ∙ ap (λ (l : List ℕ). front_of l i.text.now) row,
     )
 
-pub spg-meaning-text-spec : {M : Type 1} → statement M
-spg-meaning-text-spec =
+pub spg_meaning_text_spec : {M : Type 1} → statement M
+spg_meaning_text_spec =
     tie.close
     (tie.spec
     text-start-requires

@@ -2,8 +2,8 @@
 use mathlib.Core.Path.{sym, ap, ◌∙◌}
 use borrow.Author.Rules.{rules}
 use lib.Seq.{length-take-le}
-use Rattle.basin.specs.Basin.{basinOf}
-use Rattle.spargolutta.proofs.Listed.{decoded-front, decoded-room}
+use Rattle.basin.specs.Basin.{basin_of}
+use Rattle.spargolutta.proofs.Listed.{decoded_front, decoded_room}
 use Rattle.spargolutta.proofs.outline.basin_in.Statement.{statement}
 use Rattle.spargolutta.proofs.outline.basin_in.Tie as tie
 
@@ -14,10 +14,10 @@ decode-requires : tie.Need-decode-requires
 decode-requires c κs = search rules
 
 slice-reshare-prefix-check-basin : tie.Need-slice-reshare-prefix-check-basin
-slice-reshare-prefix-check-basin c = decoded-room _ _ _ c.before.decode.ensures
+slice-reshare-prefix-check-basin c = decoded_room _ _ _ c.before.decode.ensures
 
 slice-aggregate-check-basin : tie.Need-slice-aggregate-check-basin
-slice-aggregate-check-basin c = sym (length-take-le _ _ (decoded-room _ _ _ c.before.before.decode.ensures))
+slice-aggregate-check-basin c = sym (length-take-le _ _ (decoded_room _ _ _ c.before.before.decode.ensures))
 
 check-basin-requires : tie.Need-check-basin-requires
 check-basin-requires c κs = search rules
@@ -29,10 +29,10 @@ returns : tie.Need-returns
 returns c =
     let d = c.before.before.before.decode.ensures in
     let start = c.before.before.before.before.before.before in
-    (c.check-basin.ensures ∙ ap (basinOf start.args.grid) (decoded-front start.args.vertices.now _ _ d), d)
+    (c.check-basin.ensures ∙ ap (basin_of start.args.grid) (decoded_front start.args.vertices.now _ _ d), d)
 
-pub basin-in-spec : {M : Type 1} → statement M
-basin-in-spec =
+pub basin_in_spec : {M : Type 1} → statement M
+basin_in_spec =
     tie.close
     (tie.spec
     mul-size

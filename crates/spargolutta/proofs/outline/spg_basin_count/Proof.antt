@@ -1,7 +1,7 @@
 -- `spg_basin_count` meets its contract.
 use mathlib.Core.Path.{◌∙◌, ap}
 use borrow.Author.Rules.{rules}
-use Rattle.basin.specs.Basin.{basinCountOf}
+use Rattle.basin.specs.Basin.{basin_count_of}
 use Rattle.spargolutta.proofs.outline.spg_basin_count.Statement.{statement}
 use Rattle.spargolutta.proofs.outline.spg_basin_count.Tie as tie
 
@@ -12,7 +12,7 @@ basin-count-requires : tie.Need-basin-count-requires
 basin-count-requires c κs = search rules
 
 returns : tie.Need-returns
-returns c = c.basin-count.ensures ∙ ap basinCountOf c.before.basin-of.ensures
+returns c = c.basin-count.ensures ∙ ap basin_count_of c.before.basin-of.ensures
 
-pub spg-basin-count-spec : {M : Type 1} → statement M
-spg-basin-count-spec = tie.close (tie.spec basin-of-requires basin-count-requires returns)
+pub spg_basin_count_spec : {M : Type 1} → statement M
+spg_basin_count_spec = tie.close (tie.spec basin-of-requires basin-count-requires returns)

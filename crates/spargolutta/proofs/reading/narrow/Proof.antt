@@ -12,5 +12,5 @@ returns : tie.Need-returns
 returns c =
     rw (to_z-of_z w64 c.args.k c.ranges.k) (to_z-of_z w32 c.args.k (narrows c.args.k c.requires))
 
-pub narrow-spec : {M : Type 1} → statement M
-narrow-spec = tie.close (tie.spec cast-result returns)
+pub narrow_spec : {M : Type 1} → statement M
+narrow_spec = tie.close (tie.spec cast-result returns)

@@ -5,9 +5,9 @@ use lib.IntN.{ℤ}
 use mir.Syntax.{w32, w64}
 use mir.Val.{to_z, of_z}
 use mir.ValLaws.{to_z-of_z}
-use Rattle.integers.proofs.Compare.{result-same}
+use Rattle.integers.proofs.Compare.{result_same}
 use Rattle.sphere.specs.Point.{Fits}
-use Rattle.angles.proofs.Numbers.{numbers-same}
+use Rattle.angles.proofs.Numbers.{numbers_same}
 use Rattle.big_endian.proofs.Laws.Signed.{narrows, widens}
 use Rattle.spargolutta.proofs.reading.numbers.Statement.{statement}
 use Rattle.spargolutta.proofs.reading.numbers.Tie as tie
@@ -31,9 +31,9 @@ returns c =
     let x = c.before.before.before.before.narrow in
     let y = c.before.before.narrow2 in
     let z = c.narrow3 in
-    numbers-same _ (result-same w32 x.result x.type-inv x.ensures ∙ whole s.args.p.x w.at_x)
-    (result-same w32 y.result y.type-inv y.ensures ∙ whole s.args.p.y w.at_y)
-    (result-same w32 z.result z.type-inv z.ensures ∙ whole s.args.p.z w.at-z)
+    numbers_same _ (result_same w32 x.result x.type-inv x.ensures ∙ whole s.args.p.x w.at_x)
+    (result_same w32 y.result y.type-inv y.ensures ∙ whole s.args.p.y w.at_y)
+    (result_same w32 z.result z.type-inv z.ensures ∙ whole s.args.p.z w.at_z)
 
-pub numbers-spec : {M : Type 1} → statement M
-numbers-spec = tie.close (tie.spec narrow-requires narrow-requires-2 narrow-requires-3 returns)
+pub numbers_spec : {M : Type 1} → statement M
+numbers_spec = tie.close (tie.spec narrow-requires narrow-requires-2 narrow-requires-3 returns)

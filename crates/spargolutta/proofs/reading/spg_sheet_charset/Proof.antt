@@ -10,5 +10,5 @@ read-requires c κs = search rules
 returns : tie.Need-returns
 returns c = ap (λ s. s.charset) c.read.ensures
 
-pub spg-sheet-charset-spec : {M : Type 1} → statement M
-spg-sheet-charset-spec = tie.close (tie.spec read-requires returns)
+pub spg_sheet_charset_spec : {M : Type 1} → statement M
+spg_sheet_charset_spec = tie.close (tie.spec read-requires returns)

@@ -3,7 +3,7 @@ use mathlib.Core.Path.{ap, ◌∙◌}
 use borrow.Author.Rules.{rules}
 use mir.Syntax.{w32}
 use mir.ValLaws.{to_z-of_z}
-use Rattle.angles.proofs.Numbers.{numbers_of}
+use Rattle.angles.proofs.Numbers.{numbers_of_lem}
 use Rattle.angles.specs.declared.point.GridNumbers.{GridNumbers}
 use Rattle.spargolutta.proofs.reading.spg_sheet_known_y.Statement.{statement}
 use Rattle.spargolutta.proofs.reading.spg_sheet_known_y.Tie as tie
@@ -13,8 +13,8 @@ known-requires c κs = search rules
 
 returns : tie.Need-returns
 returns c =
-    let w = numbers_of c.before.known.result c.struct_told.given in
+    let w = numbers_of_lem c.before.known.result c.struct_told.given in
     to_z-of_z w32 _ w.at_y ∙ ap (λ (v : GridNumbers). v.y) c.before.known.ensures
 
-pub spg-sheet-known-y-spec : {M : Type 1} → statement M
-spg-sheet-known-y-spec = tie.close (tie.spec known-requires returns)
+pub spg_sheet_known_y_spec : {M : Type 1} → statement M
+spg_sheet_known_y_spec = tie.close (tie.spec known-requires returns)

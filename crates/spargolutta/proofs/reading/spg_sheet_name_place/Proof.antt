@@ -10,5 +10,5 @@ read-requires c κs = search rules
 returns : tie.Need-returns
 returns c = ap (λ s. s.name_at) c.read.ensures
 
-pub spg-sheet-name-place-spec : {M : Type 1} → statement M
-spg-sheet-name-place-spec = tie.close (tie.spec read-requires returns)
+pub spg_sheet_name_place_spec : {M : Type 1} → statement M
+spg_sheet_name_place_spec = tie.close (tie.spec read-requires returns)

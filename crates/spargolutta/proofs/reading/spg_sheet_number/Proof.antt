@@ -14,5 +14,5 @@ number-requires c κs = search rules
 returns : tie.Need-returns
 returns c = c.number.ensures ∙ ap (λ s. number_of s.answer) c.before.read.ensures
 
-pub spg-sheet-number-spec : {M : Type 1} → statement M
-spg-sheet-number-spec = tie.close (tie.spec read-requires number-requires returns)
+pub spg_sheet_number_spec : {M : Type 1} → statement M
+spg_sheet_number_spec = tie.close (tie.spec read-requires number-requires returns)

@@ -14,5 +14,5 @@ place-requires c κs = search rules
 returns : tie.Need-returns
 returns c = c.place.ensures ∙ ap (λ s. place_of s.answer) c.before.read.ensures
 
-pub spg-sheet-place-spec : {M : Type 1} → statement M
-spg-sheet-place-spec = tie.close (tie.spec read-requires place-requires returns)
+pub spg_sheet_place_spec : {M : Type 1} → statement M
+spg_sheet_place_spec = tie.close (tie.spec read-requires place-requires returns)

@@ -3,7 +3,7 @@ use mathlib.Core.Path.{ap, ◌∙◌}
 use borrow.Author.Rules.{rules}
 use mir.Syntax.{w32}
 use mir.ValLaws.{to_z-of_z}
-use Rattle.angles.proofs.Numbers.{numbers_of}
+use Rattle.angles.proofs.Numbers.{numbers_of_lem}
 use Rattle.angles.specs.declared.point.GridNumbers.{GridNumbers}
 use Rattle.spargolutta.proofs.reading.spg_sheet_second_z.Statement.{statement}
 use Rattle.spargolutta.proofs.reading.spg_sheet_second_z.Tie as tie
@@ -13,8 +13,8 @@ second-requires c κs = search rules
 
 returns : tie.Need-returns
 returns c =
-    let w = numbers_of c.before.second.result c.struct_told.given in
-    to_z-of_z w32 _ w.at-z ∙ ap (λ (v : GridNumbers). v.z) c.before.second.ensures
+    let w = numbers_of_lem c.before.second.result c.struct_told.given in
+    to_z-of_z w32 _ w.at_z ∙ ap (λ (v : GridNumbers). v.z) c.before.second.ensures
 
-pub spg-sheet-second-z-spec : {M : Type 1} → statement M
-spg-sheet-second-z-spec = tie.close (tie.spec second-requires returns)
+pub spg_sheet_second_z_spec : {M : Type 1} → statement M
+spg_sheet_second_z_spec = tie.close (tie.spec second-requires returns)

@@ -10,5 +10,5 @@ read-requires c κs = search rules
 returns : tie.Need-returns
 returns c = ap (λ s. s.vertex_count) c.read.ensures
 
-pub spg-sheet-vertices-spec : {M : Type 1} → statement M
-spg-sheet-vertices-spec = tie.close (tie.spec read-requires returns)
+pub spg_sheet_vertices_spec : {M : Type 1} → statement M
+spg_sheet_vertices_spec = tie.close (tie.spec read-requires returns)

@@ -10,5 +10,5 @@ read-requires c κs = search rules
 returns : tie.Need-returns
 returns c = ap (λ s. s.zone) c.read.ensures
 
-pub spg-sheet-zone-spec : {M : Type 1} → statement M
-spg-sheet-zone-spec = tie.close (tie.spec read-requires returns)
+pub spg_sheet_zone_spec : {M : Type 1} → statement M
+spg_sheet_zone_spec = tie.close (tie.spec read-requires returns)

@@ -2,12 +2,12 @@
 use mathlib.Core.Path.{sym, ap, ◌∙◌}
 use borrow.Author.Rules.{rules}
 use lib.Seq.{length-take-le}
-use Rattle.big_endian.specs.Bytes.{intsAt}
+use Rattle.big_endian.specs.Bytes.{ints_at}
 use Rattle.polygon.specs.GridClaims.{on}
-use Rattle.sphere.specs.Point.{gridNumbered}
-use Rattle.sheet.specs.Write.{writeOf}
-use Rattle.spargolutta.specs.Writing.{pointGrid}
-use Rattle.spargolutta.proofs.Listed.{decoded-front, decoded-room, alike-listed}
+use Rattle.sphere.specs.Point.{grid_numbered}
+use Rattle.sheet.specs.Write.{write_of}
+use Rattle.spargolutta.specs.Writing.{point_grid}
+use Rattle.spargolutta.proofs.Listed.{decoded_front, decoded_room, alike_listed}
 use Rattle.spargolutta.proofs.writing.answer_list.Statement.{statement}
 use Rattle.spargolutta.proofs.writing.answer_list.Tie as tie
 
@@ -34,7 +34,7 @@ array-share-prefix-scratch c = search rules
 
 slice-aggregate-write-answer : tie.Need-slice-aggregate-write-answer
 slice-aggregate-write-answer c =
-    sym (length-take-le _ _ (decoded-room _ _ _ c.before.before.decode.ensures))
+    sym (length-take-le _ _ (decoded_room _ _ _ c.before.before.decode.ensures))
 
 write-answer-requires : tie.Need-write-answer-requires
 write-answer-requires c κs = search rules
@@ -46,17 +46,17 @@ returns c =
     let k = l.before.before.before in
     let i = k.before.before.before.args in
     let b = i.vertices.now in
-    let row = decoded-front b _ _ d.decode.ensures ∙ ap (intsAt b 0) l.list-size.ensures.0 in
+    let row = decoded_front b _ _ d.decode.ensures ∙ ap (ints_at b 0) l.list-size.ensures.0 in
     let known = k.placed.ensures in
     let second = l.before.before.placed2.ensures in
     let own = l.before.grid-numbered.ensures in
-    let alike = alike-listed i.charset i.name.now (on (pointGrid i.grid) i.known) (gridNumbered i.grid)
-    (on (pointGrid i.grid) i.second) b in
+    let alike = alike_listed i.charset i.name.now (on (point_grid i.grid) i.known) (grid_numbered i.grid)
+    (on (point_grid i.grid) i.second) b in
     c.write-answer.ensures
-    ∙ (λ j. writeOf i.charset i.name.now (known j) (own j) (row j) (second j) i.room) ∙ alike.answers _
+    ∙ (λ j. write_of i.charset i.name.now (known j) (own j) (row j) (second j) i.room) ∙ alike.answers _
 
-pub answer-list-spec : {M : Type 1} → statement M
-answer-list-spec =
+pub answer_list_spec : {M : Type 1} → statement M
+answer_list_spec =
     tie.close
     (tie.spec
     placed-requires

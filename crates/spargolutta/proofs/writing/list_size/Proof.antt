@@ -22,5 +22,5 @@ returns-3 c =
     let h = c.if2.false in
     (rw (eq-eqb _ 0 w, le-leb c.before.before.args.n 49152 (omega arith)), (omega arith, omega arith))
 
-pub list-size-spec : {M : Type 1} → statement M
-list-size-spec = tie.close (tie.spec returns returns-2 mul-result returns-3)
+pub list_size_spec : {M : Type 1} → statement M
+list_size_spec = tie.close (tie.spec returns returns-2 mul-result returns-3)

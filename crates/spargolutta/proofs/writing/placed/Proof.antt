@@ -12,5 +12,5 @@ point-grid-requires c κs = search rules
 returns : tie.Need-returns
 returns c = ap (λ (g : Grid). on g c.before.args.p) c.point-grid.ensures
 
-pub placed-spec : {M : Type 1} → statement M
-placed-spec = tie.close (tie.spec point-grid-requires returns)
+pub placed_spec : {M : Type 1} → statement M
+placed_spec = tie.close (tie.spec point-grid-requires returns)

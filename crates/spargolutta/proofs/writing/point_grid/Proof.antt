@@ -9,5 +9,5 @@ returns c = rw (eq-eqb _ _ c.if1.true)
 returns-2 : tie.Need-returns-2
 returns-2 c = rw (ne_eqb _ _ c.if1.false)
 
-pub point-grid-spec : {M : Type 1} → statement M
-point-grid-spec = tie.close (tie.spec returns returns-2)
+pub point_grid_spec : {M : Type 1} → statement M
+point_grid_spec = tie.close (tie.spec returns returns-2)

@@ -3,7 +3,7 @@ use mathlib.Core.Path.{ap, ◌∙◌}
 use borrow.Author.Rules.{rules}
 use lib.ListN.{length}
 use Rattle.answer.specs.Answer.{number_of}
-use Rattle.spargolutta.specs.Writing.{bytesWriteOf, bytesWrittenTo}
+use Rattle.spargolutta.specs.Writing.{bytes_write_of, bytes_written_to}
 use Rattle.spargolutta.proofs.Handed.{handed}
 use Rattle.spargolutta.proofs.writing.spg_write_number.Statement.{statement}
 use Rattle.spargolutta.proofs.writing.spg_write_number.Tie as tie
@@ -34,15 +34,15 @@ returns c =
     let e = c.before.before.before.write-list.ensures in (
       c.number.ensures
           ∙ ap number_of (e.0
-          ∙ (λ j. bytesWriteOf i.charset i.name.now (k j) (s j) i.vertices.now i.grid
+          ∙ (λ j. bytes_write_of i.charset i.name.now (k j) (s j) i.vertices.now i.grid
           (length i.sheet.now))),
       e.1
-          ∙ (λ j. bytesWrittenTo i.zone i.charset i.name.now (k j) (s j) i.vertices.now i.grid
+          ∙ (λ j. bytes_written_to i.zone i.charset i.name.now (k j) (s j) i.vertices.now i.grid
           i.sheet.now),
     )
 
-pub spg-write-number-spec : {M : Type 1} → statement M
-spg-write-number-spec =
+pub spg_write_number_spec : {M : Type 1} → statement M
+spg_write_number_spec =
     tie.close
     (tie.spec
     query-requires

@@ -2,7 +2,7 @@
 use mathlib.Core.Path.{ap, ◌∙◌}
 use borrow.Author.Rules.{rules}
 use Rattle.answer.specs.Answer.{place_of}
-use Rattle.spargolutta.specs.Writing.{bytesWriteOf}
+use Rattle.spargolutta.specs.Writing.{bytes_write_of}
 use Rattle.spargolutta.proofs.Handed.{handed}
 use Rattle.spargolutta.proofs.writing.spg_write_place.Statement.{statement}
 use Rattle.spargolutta.proofs.writing.spg_write_place.Tie as tie
@@ -28,9 +28,9 @@ returns c =
     let s = c.before.before.query2.ensures ∙ handed _ _ _ f.u f.v f.w in
     c.place.ensures
     ∙ ap place_of (c.before.answer-list.ensures
-    ∙ (λ j. bytesWriteOf i.charset i.name.now (k j) (s j) i.vertices.now i.grid i.room))
+    ∙ (λ j. bytes_write_of i.charset i.name.now (k j) (s j) i.vertices.now i.grid i.room))
 
-pub spg-write-place-spec : {M : Type 1} → statement M
-spg-write-place-spec =
+pub spg_write_place_spec : {M : Type 1} → statement M
+spg_write_place_spec =
     tie.close
     (tie.spec query-requires query-requires-2 answer-list-requires place-requires returns)

@@ -5,10 +5,10 @@ use borrow.Author.Rules.{rules, sfits_of}
 use mir.Syntax.{w32, w64}
 use mir.ValLaws.{to_z-of_z}
 use Rattle.integers.specs.Sign.{sign_of, unit_of}
-use Rattle.integers.proofs.Compare.{result-same}
-use Rattle.sphere.specs.Orientation.{dotOf}
-use Rattle.sphere.specs.Crossing.{changesSide}
-use Rattle.sphere.proofs.Cases.{crossing-same-side}
+use Rattle.integers.proofs.Compare.{result_same}
+use Rattle.sphere.specs.Orientation.{dot_of}
+use Rattle.sphere.specs.Crossing.{changes_side}
+use Rattle.sphere.proofs.Cases.{crossing_same_side}
 use Rattle.sphere.proofs.crossing.crossing_from.Statement.{statement}
 use Rattle.sphere.proofs.crossing.crossing_from.Tie as tie
 
@@ -26,7 +26,7 @@ returns c =
     let s = c.before.before.before.before in
     let s3 = c.before.side-of in
     let r = c.crossing-by in
-    result-same w32 r.result r.type-inv r.ensures ∙ rw (
+    result_same w32 r.result r.type-inv r.ensures ∙ rw (
       to_z-of_z w64 s.args.s1 s.ranges.s1,
       to_z-of_z w64 s.args.s2 s.ranges.s2,
       to_z-of_z w64 s3.result (sfits_of s3.type-inv),
@@ -37,15 +37,15 @@ returns c =
 returns-2 : tie.Need-returns-2
 returns-2 c =
     let s = c.before.before in
-    let same : changesSide (sign_of s.args.s1) (sign_of s.args.s2) ≡ false = cc (
+    let same : changes_side (sign_of s.args.s1) (sign_of s.args.s2) ≡ false = cc (
       c.before.changes-side.ensures,
       c.if1.false,
       to_z-of_z w64 s.args.s1 s.ranges.s1,
       to_z-of_z w64 s.args.s2 s.ranges.s2,
     ) in
-    ap unit_of (sym (crossing-same-side (sign_of s.args.s1) (sign_of s.args.s2)
-    (sign_of (dotOf s.args.edge.normal s.args.x)) (sign_of s.args.s4) same))
+    ap unit_of (sym (crossing_same_side (sign_of s.args.s1) (sign_of s.args.s2)
+    (sign_of (dot_of s.args.edge.normal s.args.x)) (sign_of s.args.s4) same))
 
-pub crossing-from-spec : {M : Type 1} → statement M
-crossing-from-spec =
+pub crossing_from_spec : {M : Type 1} → statement M
+crossing_from_spec =
     tie.close (tie.spec changes-side-requires side-of-requires crossing-by-requires returns returns-2)

@@ -6,16 +6,16 @@ use borrow.Author.Rules.{rules}
 use lib.IntN.{ℤ, pos}
 use lib.ListN.{replicate}
 use lib.Seq.{length-take-le}
-use Rattle.sphere.specs.Point.{limitOf}
+use Rattle.sphere.specs.Point.{limit_of}
 use Rattle.answer.specs.declared.Check.TheVariants.{Passed}
-use Rattle.polygon.specs.Checks.{acceptCheck}
-use Rattle.polygon.specs.Pair.{chooseOf}
-use Rattle.sheet.specs.Sheet.{plainCheck}
-use Rattle.sheet.proofs.Laws.Reads.{plain-passed, opened-check, opened-passed}
-use Rattle.zone.specs.Choose.{candidatesOf}
-use Rattle.zone.proofs.Laws.Room.{any-boxes}
-use Rattle.zone.proofs.Laws.Opened.{Polygon, polygon, opened-boxed}
-use Rattle.zone.proofs.Laws.Candidates.{choose-short, choose-passed, choose-failed}
+use Rattle.polygon.specs.Checks.{accept_check}
+use Rattle.polygon.specs.Pair.{choose_of}
+use Rattle.sheet.specs.Sheet.{plain_check}
+use Rattle.sheet.proofs.Laws.Reads.{plain_passed, opened_check, opened_passed}
+use Rattle.zone.specs.Choose.{candidates_of}
+use Rattle.zone.proofs.Laws.Room.{any_boxes}
+use Rattle.zone.proofs.Laws.Opened.{Polygon, polygon, opened_boxed}
+use Rattle.zone.proofs.Laws.Candidates.{choose_short, choose_passed, choose_failed}
 use Rattle.zone.proofs.choose.choose.Statement.{statement}
 use Rattle.zone.proofs.choose.choose.Tie as tie
 
@@ -31,27 +31,27 @@ module _ (o : tie.After-plain-into) where
   abbrev start : tie.Start
   start = tested.before.before.before
 
-  checked : plainCheck start.args.b.now ≡ o.plain-into.result.check
-  checked = sym (opened-check start.args.b.now (plainCheck start.args.b.now) o.plain-into.ensures.0)
+  checked : plain_check start.args.b.now ≡ o.plain-into.result.check
+  checked = sym (opened_check start.args.b.now (plain_check start.args.b.now) o.plain-into.ensures.0)
 
 -- Where they passed.
 module _ (c : tie.After-enum-told) where
   abbrev opened : tie.After-plain-into
   opened = c.before.before.before.before
 
-  passed : plainCheck (start opened).args.b.now ≡ Passed
+  passed : plain_check (start opened).args.b.now ≡ Passed
   passed = checked opened ∙ c.enum_told.given.1
 
   found : Polygon (start opened).args.b.now opened.plain-into.result opened.plain-into.last.1.0
   found =
       let b = (start opened).args.b.now in
-      polygon b zeros (opened-passed b opened.plain-into.ensures.0 passed)
-      (plain-passed b passed).0 opened.plain-into.ensures.1.0
+      polygon b zeros (opened_passed b opened.plain-into.ensures.0 passed)
+      (plain_passed b passed).0 opened.plain-into.ensures.1.0
 
 returns : tie.Need-returns
 returns c =
     let i = c.before.before.before.args in
-    sym (choose-short i.b.now i.candidates.now c.if1.true)
+    sym (choose_short i.b.now i.candidates.now c.if1.true)
 
 slice-aggregate-plain-into : tie.Need-slice-aggregate-plain-into
 slice-aggregate-plain-into c = search rules
@@ -61,7 +61,7 @@ slice-aggregate-plain-into-2 c = search rules
 
 plain-into-requires : tie.Need-plain-into-requires
 plain-into-requires c κs =
-    (search rules, any-boxes c.before.before.before.before.before.args.b.now _ (search rules))
+    (search rules, any_boxes c.before.before.before.before.before.args.b.now _ (search rules))
 
 enum_told : tie.Need-enum-told
 enum_told c = search rules
@@ -74,7 +74,7 @@ returns-2 c =
     let o = c.before.before.before.before.before in
     let i = (start o).args in
     let e = checked o ∙ c.before.check.given.1 in
-    sym (choose-failed i.b.now i.candidates.now (tested o).if1.false e)
+    sym (choose_failed i.b.now i.candidates.now (tested o).if1.false e)
 
 mul-size : tie.Need-overflow-mul-size
 mul-size c = record { fits = omega (arith, (found c.before).few) }
@@ -94,8 +94,8 @@ earliest-requires c κs =
     let b = (start (opened t)).args.b.now in
     let f = found t in
     let e = f.points in (
-      (λ j. acceptCheck (limitOf (e j).grid) (f.row j) (e j).known) ∙ (plain-passed b (passed t)).1,
-      rw f.row (opened-boxed b (replicate 768 (pos 0)) (passed t) (any-boxes b _ (search rules))
+      (λ j. accept_check (limit_of (e j).grid) (f.row j) (e j).known) ∙ (plain_passed b (passed t)).1,
+      rw f.row (opened_boxed b (replicate 768 (pos 0)) (passed t) (any_boxes b _ (search rules))
           (opened t).plain-into.ensures.1.1),
     )
 
@@ -107,8 +107,8 @@ returns-3 c =
     let f = found t in
     let e = f.points in
     c.earliest.ensures
-    ∙ (λ j. chooseOf (limitOf (e j).grid) (f.row j) (e j).known (candidatesOf i.candidates.now))
-    ∙ sym (choose-passed i.b.now i.candidates.now (tested o).if1.left (passed t))
+    ∙ (λ j. choose_of (limit_of (e j).grid) (f.row j) (e j).known (candidates_of i.candidates.now))
+    ∙ sym (choose_passed i.b.now i.candidates.now (tested o).if1.left (passed t))
 
 pub choose_spec : {M : Type 1} → statement M
 choose_spec =

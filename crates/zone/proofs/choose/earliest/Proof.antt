@@ -8,28 +8,28 @@ use borrow.Author.Rules.{rules}
 use lib.IntN.{ℤ}
 use Rattle.sphere.specs.declared.point.Point.{Point}
 use Rattle.sphere.specs.declared.point.Grid.{Grid}
-use Rattle.sphere.specs.Point.{limitOf}
-use Rattle.polygon.specs.Vertices.{vertexAt}
-use Rattle.polygon.specs.Pair.{isSecond}
-use Rattle.answer.proofs.Laws.Search.{Searched, searched-start, searched-step, searched-hit, searched-end}
+use Rattle.sphere.specs.Point.{limit_of}
+use Rattle.polygon.specs.Vertices.{vertex_at}
+use Rattle.polygon.specs.Pair.{is_second}
+use Rattle.answer.proofs.Laws.Search.{Searched, searched_start, searched_step, searched_hit, searched_end}
 use Rattle.polygon.proofs.Laws.Edges.{tested}
-use Rattle.zone.specs.Choose.{candidateCount, candidatesOf}
-use Rattle.zone.proofs.Laws.Candidates.{chosen-accepted}
+use Rattle.zone.specs.Choose.{candidate_count, candidates_of}
+use Rattle.zone.proofs.Laws.Candidates.{chosen_accepted}
 use Rattle.zone.proofs.choose.earliest.Statement.{statement}
 use Rattle.zone.proofs.choose.earliest.Tie as tie
 
 abbrev passes : Grid → List ℤ → Point → List ℕ → ℕ → Bool
-passes grid vs X candidates i = isSecond (limitOf grid) vs X (vertexAt (candidatesOf candidates) i)
+passes grid vs X candidates i = is_second (limit_of grid) vs X (vertex_at (candidates_of candidates) i)
 
 abbrev invariant-loop : tie.invariant-loop
 invariant-loop grid vertices boxes known candidates n i₀ i =
-    (i ≤ n) × Searched (passes grid vertices known candidates) (candidateCount candidates) i
+    (i ≤ n) × Searched (passes grid vertices known candidates) (candidate_count candidates) i
 
 abbrev decreases-loop : tie.decreases-loop
 decreases-loop grid vertices boxes known candidates n i₀ i = n - i
 
 loop-holds : tie.Need-loop-init invariant-loop decreases-loop
-loop-holds c = (omega arith, searched-start _ _)
+loop-holds c = (omega arith, searched_start _ _)
 
 candidate-at-requires : tie.Need-candidate-at-requires invariant-loop decreases-loop
 candidate-at-requires c κs = search rules
@@ -44,7 +44,7 @@ outcome : (c : tie.After-is-second invariant-loop decreases-loop) {t : Bool} →
     passes s.grid s.vertices.now s.known s.candidates.now l.loop.i ≡ t
 outcome c e =
     let s = c.before.before.before.before.before.args in
-    tested (isSecond (limitOf s.grid) s.vertices.now s.known) c.is-second.ensures
+    tested (is_second (limit_of s.grid) s.vertices.now s.known) c.is-second.ensures
     c.before.candidate-at.ensures e
 
 returns : tie.Need-returns invariant-loop decreases-loop
@@ -52,8 +52,8 @@ returns c =
     let l = c.before.before.before in
     let start = l.before.before.before in
     let s = start.args in
-    sym (chosen-accepted (limitOf s.grid) s.vertices.now s.known s.candidates.now start.requires.0
-    (searched-hit l.loop-test.true (outcome c.before c.if1.true) l.before.loop.invariant.1))
+    sym (chosen_accepted (limit_of s.grid) s.vertices.now s.known s.candidates.now start.requires.0
+    (searched_hit l.loop-test.true (outcome c.before c.if1.true) l.before.loop.invariant.1))
 
 add-i : tie.Need-overflow-add-i invariant-loop decreases-loop
 add-i c = search rules
@@ -64,17 +64,17 @@ loop-less c = search rules
 loop-again : tie.Need-loop-preserved invariant-loop decreases-loop
 loop-again c =
     let l = c.before.before.before in
-    (omega arith, searched-step l.loop-test.true (outcome c.before c.if1.false) l.before.loop.invariant.1)
+    (omega arith, searched_step l.loop-test.true (outcome c.before c.if1.false) l.before.loop.invariant.1)
 
 returns-2 : tie.Need-returns-2 invariant-loop decreases-loop
 returns-2 c =
     let start = c.before.before.before in
     let s = start.args in
-    sym (chosen-accepted (limitOf s.grid) s.vertices.now s.known s.candidates.now start.requires.0
-    (searched-end c.loop-test.false c.before.loop.invariant.1))
+    sym (chosen_accepted (limit_of s.grid) s.vertices.now s.known s.candidates.now start.requires.0
+    (searched_end c.loop-test.false c.before.loop.invariant.1))
 
-pub earliest-spec : {M : Type 1} → statement M
-earliest-spec =
+pub earliest_spec : {M : Type 1} → statement M
+earliest_spec =
     tie.close
     (tie.spec
     invariant-loop

@@ -1,7 +1,7 @@
 -- `feed::feed_answer` meets its contract.
 use mathlib.Core.Path.{sym, ◌∙◌}
 use borrow.Author.Rules.{rules}
-use Rattle.zone.specs.Judge.{sheetFeedOf}
+use Rattle.zone.specs.Judge.{sheet_feed_of}
 use Rattle.zone.proofs.feeds.feed_answer.Statement.{statement}
 use Rattle.zone.proofs.feeds.feed_answer.Tie as tie
 
@@ -15,13 +15,13 @@ enum-known-number : tie.Need-enum-known-number
 enum-known-number c = search rules
 
 returns : tie.Need-returns
-unfolding sheetFeedOf
+unfolding sheet_feed_of
 returns c = rw (sym c.before.before.feed-check.ensures ∙ c.enum_told.given.1)
 
 returns-2 : tie.Need-returns-2
-unfolding sheetFeedOf
+unfolding sheet_feed_of
 returns-2 c = rw (sym c.before.before.before.feed-check.ensures ∙ c.before.number.given.1)
 
-pub feed-answer-spec : {M : Type 1} → statement M
-feed-answer-spec =
+pub feed_answer_spec : {M : Type 1} → statement M
+feed_answer_spec =
     tie.close (tie.spec feed-check-requires enum_told enum-known-number returns returns-2)

@@ -1,7 +1,7 @@
 -- `feed::feed_check` meets its contract: 26 and 27 come first.
 use mathlib.Core.Path.{sym, ◌∙◌}
 use borrow.Author.Rules.{rules}
-use Rattle.zone.proofs.Laws.Feeds.{feed-by-size, feed-by-sheet}
+use Rattle.zone.proofs.Laws.Feeds.{feed_by_size, feed_by_sheet}
 use Rattle.zone.proofs.feeds.feed_check.Statement.{statement}
 use Rattle.zone.proofs.feeds.feed_check.Tie as tie
 
@@ -18,7 +18,7 @@ returns : tie.Need-returns
 returns c =
     let z = c.before.before.before in
     let i = z.before.before.before.args in
-    sym (feed-by-size i.sheet.now i.queries.now _ (sym z.size-check.ensures ∙ c.before.number.given.1))
+    sym (feed_by_size i.sheet.now i.queries.now _ (sym z.size-check.ensures ∙ c.before.number.given.1))
 
 sheet-check-requires : tie.Need-sheet-check-requires
 sheet-check-requires c κs = search rules
@@ -29,9 +29,9 @@ returns-2 c =
     let z = t.before.before in
     let i = z.before.before.before.args in
     c.sheet-check.ensures
-    ∙ sym (feed-by-sheet i.sheet.now i.queries.now _ (sym z.size-check.ensures ∙ t.enum_told.given.1))
+    ∙ sym (feed_by_sheet i.sheet.now i.queries.now _ (sym z.size-check.ensures ∙ t.enum_told.given.1))
 
-pub feed-check-spec : {M : Type 1} → statement M
-feed-check-spec =
+pub feed_check_spec : {M : Type 1} → statement M
+feed_check_spec =
     tie.close
     (tie.spec size-check-requires enum_told enum-known-number returns sheet-check-requires returns-2)

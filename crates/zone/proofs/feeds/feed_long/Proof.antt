@@ -1,7 +1,7 @@
 -- `feeds::feed_long` meets its contract: there is room for any.
 use native.Mathlib.Omega.{arith}
 use borrow.Author.Rules.{rules}
-use Rattle.zone.proofs.Laws.Room.{any-boxes}
+use Rattle.zone.proofs.Laws.Room.{any_boxes}
 use Rattle.zone.proofs.feeds.feed_long.Statement.{statement}
 use Rattle.zone.proofs.feeds.feed_long.Tie as tie
 
@@ -14,7 +14,7 @@ slice-aggregate-feed-in-2 c = search rules
 feed-in-requires : tie.Need-feed-in-requires
 feed-in-requires c κs =
     let s = c.before.before.before.before.before.before in
-    (search rules, any-boxes s.args.sheet.now _ (search rules))
+    (search rules, any_boxes s.args.sheet.now _ (search rules))
 
 same_length : tie.Need-same-length
 same_length c = search rules
@@ -22,6 +22,6 @@ same_length c = search rules
 returns : tie.Need-returns
 returns c = c.before.before.before.before.feed-in.ensures
 
-pub feed-long-spec : {M : Type 1} → statement M
-feed-long-spec =
+pub feed_long_spec : {M : Type 1} → statement M
+feed_long_spec =
     tie.close (tie.spec slice-aggregate-feed-in slice-aggregate-feed-in-2 feed-in-requires same_length returns)

@@ -1,7 +1,7 @@
 -- `judge::judged_middle` meets its contract: there is room for one of the middle size.
 use native.Mathlib.Omega.{arith}
 use borrow.Author.Rules.{rules}
-use Rattle.zone.proofs.Laws.Room.{middle-boxes}
+use Rattle.zone.proofs.Laws.Room.{middle_boxes}
 use Rattle.zone.proofs.judge.judged_middle.Statement.{statement}
 use Rattle.zone.proofs.judge.judged_middle.Tie as tie
 
@@ -13,11 +13,11 @@ slice-aggregate-judged-in-2 c = search rules
 
 judged-in-requires : tie.Need-judged-in-requires
 judged-in-requires c κs =
-    let s = c.before.before.before in (search rules, middle-boxes s.args.b.now _ s.requires (search rules))
+    let s = c.before.before.before in (search rules, middle_boxes s.args.b.now _ s.requires (search rules))
 
 returns : tie.Need-returns
 returns c = c.before.before.judged-in.ensures.0
 
-pub judged-middle-spec : {M : Type 1} → statement M
-judged-middle-spec =
+pub judged_middle_spec : {M : Type 1} → statement M
+judged_middle_spec =
     tie.close (tie.spec slice-aggregate-judged-in slice-aggregate-judged-in-2 judged-in-requires returns)

@@ -1,7 +1,7 @@
 -- `judge::judged_short` meets its contract: there is room for a short sheet.
 use native.Mathlib.Omega.{arith}
 use borrow.Author.Rules.{rules}
-use Rattle.zone.proofs.Laws.Room.{few-boxes}
+use Rattle.zone.proofs.Laws.Room.{few_boxes}
 use Rattle.zone.proofs.judge.judged_short.Statement.{statement}
 use Rattle.zone.proofs.judge.judged_short.Tie as tie
 
@@ -13,11 +13,11 @@ slice-aggregate-judged-in-2 c = search rules
 
 judged-in-requires : tie.Need-judged-in-requires
 judged-in-requires c κs =
-    let s = c.before.before.before in (search rules, few-boxes s.args.b.now _ s.requires (search rules))
+    let s = c.before.before.before in (search rules, few_boxes s.args.b.now _ s.requires (search rules))
 
 returns : tie.Need-returns
 returns c = c.before.before.judged-in.ensures.0
 
-pub judged-short-spec : {M : Type 1} → statement M
-judged-short-spec =
+pub judged_short_spec : {M : Type 1} → statement M
+judged_short_spec =
     tie.close (tie.spec slice-aggregate-judged-in slice-aggregate-judged-in-2 judged-in-requires returns)

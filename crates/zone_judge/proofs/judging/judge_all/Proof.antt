@@ -45,8 +45,8 @@ loop-again c = search rules
 returns-2 : tie.Need-returns-2 invariant-loop decreases-loop
 returns-2 c = search rules
 
-pub judge-all-spec : {M : Type 1} → statement M
-judge-all-spec =
+pub judge_all_spec : {M : Type 1} → statement M
+judge_all_spec =
     tie.close
     (tie.spec
     invariant-loop

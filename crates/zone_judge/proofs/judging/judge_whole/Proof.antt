@@ -17,5 +17,5 @@ same_length c = search rules
 returns : tie.Need-returns
 returns c = search rules
 
-pub judge-whole-spec : {M : Type 1} → statement M
-judge-whole-spec = tie.close (tie.spec slice-aggregate-feed feed-requires same_length returns)
+pub judge_whole_spec : {M : Type 1} → statement M
+judge_whole_spec = tie.close (tie.spec slice-aggregate-feed feed-requires same_length returns)

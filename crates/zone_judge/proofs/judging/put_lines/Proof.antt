@@ -6,8 +6,8 @@ use native.Mathlib.Omega.{arith}
 use borrow.Author.Rules.{rules}
 use lib.ListN.{length}
 use lib.Seq.{sets}
-use Rattle.zone_judge.specs.Line.{resultLine, lines_of}
-use Rattle.zone_judge.proofs.Laws.{lines-put, lines-length}
+use Rattle.zone_judge.specs.Line.{result_line, lines_of}
+use Rattle.zone_judge.proofs.Laws.{lines_put, lines_length}
 use Rattle.zone_judge.proofs.judging.put_lines.Statement.{statement}
 use Rattle.zone_judge.proofs.judging.put_lines.Tie as tie
 use Rattle.zone_judge.proofs.judging.put_lines.Reads as reads
@@ -48,9 +48,9 @@ loop-again c =
       omega arith,
       omega (arith, p.ensures.1.1),
       p.ensures.0
-          ∙ ap (λ (o : List ℕ). sets o l.at (resultLine r (l.i * 12))) l.invariant.3
-          ∙ lines-put x.out.now r l.i l.at l.invariant.4,
-      omega (arith, p.ensures.1.0, l.invariant.4, lines-length r l.i),
+          ∙ ap (λ (o : List ℕ). sets o l.at (result_line r (l.i * 12))) l.invariant.3
+          ∙ lines_put x.out.now r l.i l.at l.invariant.4,
+      omega (arith, p.ensures.1.0, l.invariant.4, lines_length r l.i),
     )
 
 same_length : tie.Need-same-length invariant-loop decreases-loop
@@ -65,8 +65,8 @@ returns c =
       (l.invariant.4 ∙ ap (λ (k : ℕ). length (lines_of x.results.now k)) e, omega arith),
     )
 
-pub put-lines-spec : {M : Type 1} → statement M
-put-lines-spec =
+pub put_lines_spec : {M : Type 1} → statement M
+put_lines_spec =
     tie.close
     (tie.spec
     invariant-loop

@@ -38,7 +38,7 @@ returns c =
     c.before.before.before.before.before.place.ensures c.before.before.before.before.count.ensures in
     (l.ensures.0 ∙ ap (λ (d : List ℕ). sets x.out.now x.at d) e, l.ensures.1.1)
 
-pub put-answer-spec : {M : Type 1} → statement M
-put-answer-spec =
+pub put_answer_spec : {M : Type 1} → statement M
+put_answer_spec =
     tie.close
     (tie.spec number-requires place-requires count-requires put-line-requires same_length returns)

@@ -5,7 +5,7 @@ use Prim.Native.Nat.{ℕ}
 use native.Mathlib.Omega.{arith}
 use lib.Seq.{sets}
 use Rattle.zone_judge.specs.Line.{ended}
-use Rattle.zone_judge.proofs.Laws.{line-put, line-length}
+use Rattle.zone_judge.proofs.Laws.{line_put, line_length}
 use borrow.Author.Rules.{rules}
 use Rattle.zone_judge.proofs.lines.put_line.Statement.{statement}
 use Rattle.zone_judge.proofs.lines.put_line.Tie as tie
@@ -35,7 +35,7 @@ returns c =
       k.ensures.0
           ∙ ap (λ (o : List ℕ). sets o p.result (ended x.count 10))
           (p.ensures.0 ∙ ap (λ (o : List ℕ). sets o n.result (ended x.place 32)) n.ensures.0)
-          ∙ line-put x.out.now x.at n.result p.result x.number x.place x.count n.ensures.1.0
+          ∙ line_put x.out.now x.at n.result p.result x.number x.place x.count n.ensures.1.0
           p.ensures.1.0,
       (
         omega (
@@ -43,13 +43,13 @@ returns c =
           n.ensures.1.0,
           p.ensures.1.0,
           k.ensures.1.0,
-          line-length x.number x.place x.count,
+          line_length x.number x.place x.count,
         ),
         omega (arith, n.ensures.1.1, p.ensures.1.1, k.ensures.1.1),
       ),
     )
 
-pub put-line-spec : {M : Type 1} → statement M
-put-line-spec =
+pub put_line_spec : {M : Type 1} → statement M
+put_line_spec =
     tie.close
     (tie.spec put-number-requires put-number-requires-2 put-number-requires-3 same_length returns)

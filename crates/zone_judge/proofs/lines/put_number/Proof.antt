@@ -6,7 +6,7 @@ use native.Mathlib.Omega.{arith}
 use lib.ListN.{set}
 use Rattle.big_endian.proofs.Laws.Stores.{stored_on}
 use Rattle.zone_judge.specs.Line.{decimal}
-use Rattle.zone_judge.proofs.Laws.{digits-most, ended-length}
+use Rattle.zone_judge.proofs.Laws.{digits_most, ended_length}
 use borrow.Author.Rules.{rules}
 use Rattle.zone_judge.proofs.lines.put_number.Statement.{statement}
 use Rattle.zone_judge.proofs.lines.put_number.Tie as tie
@@ -17,19 +17,19 @@ use Rattle.zone_judge.proofs.lines.put_decimal.Reads as put-decimal-reads
 put-decimal-requires : tie.Need-put-decimal-requires
 put-decimal-requires c κs =
     let a = c.before.before in
-    let m = digits-most a.args.n (omega arith) in omega (arith, a.requires)
+    let m = digits_most a.args.n (omega arith) in omega (arith, a.requires)
 
 slice-write-out : tie.Need-slice-write-out
 slice-write-out c =
     let a = c.before.before.before.before.before in
     let d = c.before.before.put-decimal in
-    let m = digits-most a.args.n (omega arith) in omega (arith, d.ensures.1, d.auto.1.0, a.requires)
+    let m = digits_most a.args.n (omega arith) in omega (arith, d.ensures.1, d.auto.1.0, a.requires)
 
 add-result : tie.Need-overflow-add-result
 add-result c =
     let a = c.before.before.before.before.before in
     let d = c.before.before.put-decimal in
-    let m = digits-most a.args.n (omega arith) in omega (arith, d.ensures.1, a.requires)
+    let m = digits_most a.args.n (omega arith) in omega (arith, d.ensures.1, a.requires)
 
 same_length : tie.Need-same-length
 same_length c = search rules
@@ -38,12 +38,12 @@ returns : tie.Need-returns
 returns c =
     let a = c.before.before.before.before.before.args in
     let d = c.before.before.put-decimal in
-    let m = digits-most a.n (omega arith) in (
+    let m = digits_most a.n (omega arith) in (
       ap (λ (o : List ℕ). set o d.result a.after) d.ensures.0
           ∙ stored_on a.out.now a.at d.result (decimal a.n) (a.after ∷ []) d.ensures.1,
-      (omega (arith, d.ensures.1, ended-length a.n a.after), omega (arith, d.ensures.1)),
+      (omega (arith, d.ensures.1, ended_length a.n a.after), omega (arith, d.ensures.1)),
     )
 
-pub put-number-spec : {M : Type 1} → statement M
-put-number-spec =
+pub put_number_spec : {M : Type 1} → statement M
+put_number_spec =
     tie.close (tie.spec put-decimal-requires slice-write-out add-result same_length returns)

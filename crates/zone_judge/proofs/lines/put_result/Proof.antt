@@ -4,7 +4,7 @@ use mathlib.Core.List.{List}
 use Prim.Native.Nat.{ℕ, ◌+◌}
 use lib.ListN.{length}
 use lib.Seq.{sets}
-use Rattle.zone_judge.specs.Line.{resultLine}
+use Rattle.zone_judge.specs.Line.{result_line}
 use Rattle.zone_judge.proofs.Laws.{line_same}
 use borrow.Author.Rules.{rules}
 use Rattle.zone_judge.proofs.lines.put_result.Statement.{statement}
@@ -39,7 +39,7 @@ same_length : tie.Need-same-length
 same_length c = search rules
 
 returns : tie.Need-returns
-unfolding resultLine
+unfolding result_line
 returns c =
     let l = c.before.before.put-line in
     let x = c.before.before.before.before.before.before.before.before.before.args in
@@ -51,8 +51,8 @@ returns c =
       (l.ensures.1.0 ∙ ap (λ (d : List ℕ). x.at + length d) e, l.ensures.1.1),
     )
 
-pub put-result-spec : {M : Type 1} → statement M
-put-result-spec =
+pub put_result_spec : {M : Type 1} → statement M
+put_result_spec =
     tie.close
     (tie.spec
     word-at-requires
