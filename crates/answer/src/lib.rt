@@ -1,19 +1,20 @@
 // What is said of a list, of a check and of a query. Here, in order: Found, Check, Answer; number, place, count, sum
 // (of an answer), fails_if. Each function is proved equal to its definition in specs/; searching, counting and summing
 // by index, chains of checks and what a buffer holds after a refusal are defined there too, with their laws.
+#![tactic(auto)]
 ghost use Rattle.std.specs.Prelude.{◌≡◌};
 ghost use Rattle.answer.specs.Answer.{number_of, place_of, count_of, sum_of};
 ghost use Rattle.answer.specs.Chain.{fails_if};
 
 // What a search over vertices or edges finds: nothing, or the lowest number that passes the test.
-#[derive(Drop)]
+#[derive(Clone, Copy)]
 pub enum Found {
     Nothing,
     At(usize),
 }
 
 // What a check says: nothing against the input, or the number and the place of a refusal.
-#[derive(Drop)]
+#[derive(Clone, Copy)]
 pub enum Check {
     Passed,
     Failed(u32, usize),
@@ -21,7 +22,7 @@ pub enum Check {
 
 // Document 01's answer, with document 02's sum beside the count. `specs/Answer.antt` gives its number, place, count and
 // sum for each case.
-#[derive(Drop)]
+#[derive(Clone, Copy)]
 pub enum Answer {
     Done(usize),
     Inside(u32, i32),

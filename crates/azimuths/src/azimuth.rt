@@ -8,7 +8,7 @@ ghost use Rattle.azimuths.specs.Azimuth.{seen, quarter_of, azimuth_by, FrameAt};
 use sphere::point::Point;
 
 // Two vectors whose cross product is the reference point, some positive number of times.
-#[derive(Drop)]
+#[derive(Clone, Copy)]
 pub struct Frame {
     pub east: Point,
     pub north: Point,

@@ -34,7 +34,7 @@ fn gap(a: usize, b: usize) -> usize
 }
 
 // From azimuth `start` on, and `width` after it.
-#[derive(Drop)]
+#[derive(Clone, Copy)]
 struct Sector {
     start: usize,
     width: usize,
@@ -125,7 +125,7 @@ pub fn is_passed(sectors: &[u16], k: usize, i: usize) -> usize
 }
 
 // Whether azimuth k is inside the sector of edge i, at neither end; and whether the edge turns left.
-#[derive(Drop)]
+#[derive(Clone, Copy)]
 pub struct Passage {
     pub inside: bool,
     pub left: bool,

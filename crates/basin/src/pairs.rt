@@ -17,7 +17,7 @@ use sphere::plane::{Plane, plane_through, side_of};
 use sphere::point::Grid;
 
 // No pair, or the first that offends.
-#[derive(Drop)]
+#[derive(Clone, Copy)]
 pub enum FirstPair {
     Apart,
     Pair(usize, usize),
@@ -60,7 +60,7 @@ fn offends(grid: Grid, vertices: &[i32], i: usize, j: usize, s1: i64, s2: i64) -
 }
 
 // An edge where a scan stops, and the sides of its ends.
-#[derive(Drop)]
+#[derive(Clone, Copy)]
 struct Near {
     edge: usize,
     start: i64,

@@ -12,7 +12,7 @@ use sphere::point::grid_numbered;
 
 // What is said of a list: it is simple; an edge shares a point with a later one; or a line refuses it.
 // `specs/Basin.antt` gives number, place and count for each case.
-#[derive(Drop)]
+#[derive(Clone, Copy)]
 pub enum Basin {
     Simple,
     Sharing(usize, u32),

@@ -49,7 +49,7 @@ fn holds_end(a: Point, b: Point, c: Point, d: Point, s1: i64, s2: i64) -> bool
 }
 
 // An edge by its ends.
-#[derive(Drop)]
+#[derive(Clone, Copy)]
 pub(crate) struct Edge {
     pub start: Point,
     pub end: Point,

@@ -7,7 +7,7 @@ use fields::{sheet_end, sheet_fields};
 
 // What stands at a place of a book: a sheet with its start and its length, one that is refused with the number and the
 // place, counted from the book's start, or nothing more. `specs/Step.antt` gives each case its number, place and count.
-#[derive(Drop)]
+#[derive(Clone, Copy)]
 pub enum Step {
     Sheet(usize, usize),
     Refused(u32, usize),

@@ -8,6 +8,7 @@
 // byte behind the sheet, which `load_again` compares with a second one. A line of edges looked at has their number
 // alone, one of a sheet that is read what `lines::print_sheet` names. Proved: each function is safe and ends. Assumes
 // what `libc` states of C's write, and nothing else.
+#![tactic(auto)]
 mod calls;
 mod feeds;
 mod given;

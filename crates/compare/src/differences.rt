@@ -17,7 +17,7 @@ use sphere::direction::same_direction;
 use sphere::point::{Point, is_null};
 
 // The numbers of the fields that differ, in order, and how many they are; 0 after the last.
-#[derive(Drop)]
+#[derive(Clone, Copy)]
 pub struct Differences {
     pub numbers: [u8; 7],
     pub count: usize,

@@ -1,6 +1,7 @@
 // Document 02, P11: did the redraw change anything? Two sheets, by their bytes: which fields differ, and where and
 // which way round the right ring meets the left one. Here, in order: Comparison, refused, compare_read, compare. Each
 // function is proved equal to its definition in specs/.
+#![tactic(auto)]
 ghost use Rattle.std.specs.Prelude.{◌≡◌};
 ghost use Rattle.answer.specs.declared.Check.TheVariants.{Passed};
 ghost use Rattle.sheet.specs.Sheet.{sheet_check, read_after};
@@ -16,7 +17,7 @@ use sheet::read::{Sheet, read};
 // Number and place as everywhere; the count is the number of fields that differ, and `fields` names them in order, 0
 // after the last. The way is 1 where the right ring runs as the left one does, 2 where it runs backwards, and 0 where
 // it is another ring. Beside a refusal all but number and place are 0.
-#[derive(Drop)]
+#[derive(Clone, Copy)]
 pub struct Comparison {
     pub number: u32,
     pub place: usize,

@@ -15,7 +15,7 @@ use sphere::point::Point;
 
 // Where the right ring's vertex is that meets the left's vertex 0, forward or backward; or, of rings that are not the
 // same, the first vertex number whose points differ.
-#[derive(Drop)]
+#[derive(Clone, Copy)]
 pub enum Placed {
     Apart(usize),
     Forward(usize),

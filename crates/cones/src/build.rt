@@ -63,7 +63,7 @@ fn grow_roots(
 }
 
 // All nodes, and the end of their lists; and the frame in which the azimuths are.
-#[derive(Drop)]
+#[derive(Clone, Copy)]
 pub struct Index {
     pub nodes: usize,
     pub top: usize,

@@ -92,7 +92,7 @@ fn half_of(cone: Cone, lo: usize, last: usize, part: Part, quota: usize) -> Cone
 }
 
 // A cone that is not halved, or the lower half of it.
-#[derive(Drop)]
+#[derive(Clone, Copy)]
 pub enum Split {
     Whole,
     Low(Cone),

@@ -2,6 +2,7 @@
 // direction about the reference point is a number, its azimuth, and a cone is a range of them. A query in no cone goes by
 // the boxes; so which cones there are, and which is tried, are hints, and any choice is right. What is said of a query is
 // what a search by the boxes says.
+#![tactic(auto)]
 mod buckets;
 pub mod build;
 mod grow;

@@ -7,7 +7,7 @@ ghost use Rattle.cones.specs.Lists.{Entries, Filtered, Sifted};
 use azimuths::sectors::{is_missed, is_passed, wide};
 
 // Where what is kept ends; and a hint, how many entries span the azimuth at hand and the next.
-#[derive(Drop)]
+#[derive(Clone, Copy)]
 pub struct Tail {
     pub end: usize,
     pub passed: usize,
@@ -50,7 +50,7 @@ fn filter(
 }
 
 // Where a list stands on the stack of lists; and the same hint.
-#[derive(Drop)]
+#[derive(Clone, Copy)]
 pub struct Part {
     pub from: usize,
     pub to: usize,

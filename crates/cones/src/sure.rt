@@ -11,7 +11,7 @@ use sphere::plane::Plane;
 use sphere::point::{Grid, Point};
 
 // Whether it is sure, and if so whether the point is on the left, where the dot product with the normal is positive.
-#[derive(Drop)]
+#[derive(Clone, Copy)]
 pub struct SureSide {
     pub sure: bool,
     pub left: bool,

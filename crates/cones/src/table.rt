@@ -6,7 +6,7 @@ ghost use Rattle.cones.specs.Table.{RowOf, Indexed, Room, Roomy, Copied, ConeOn}
 use azimuths::sectors::{put_number, wide};
 
 // A node: the azimuths from lo to last, and where its list stands.
-#[derive(Drop)]
+#[derive(Clone, Copy)]
 pub struct Row {
     pub lo: usize,
     pub last: usize,
@@ -29,7 +29,7 @@ pub fn row_at(table: &[u16], k: usize) -> Row
 
 // The azimuths from lo to last, with a list on the stack of lists; and hints, how many nodes the cone may become, and
 // how often it may be halved.
-#[derive(Drop)]
+#[derive(Clone, Copy)]
 pub struct Cone {
     pub from: usize,
     pub to: usize,
@@ -40,7 +40,7 @@ pub struct Cone {
 }
 
 // The nodes of the table, and the end of their lists.
-#[derive(Drop)]
+#[derive(Clone, Copy)]
 pub struct Size {
     pub nodes: usize,
     pub top: usize,

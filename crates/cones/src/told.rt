@@ -37,7 +37,7 @@ fn way_by(known: bool, query: bool) -> i32
 }
 
 // How far a loop over a list has come, and the crossings of all edges up to there and their sum.
-#[derive(Drop)]
+#[derive(Clone, Copy)]
 pub struct Told {
     pub at: usize,
     pub crossed: u32,

@@ -23,7 +23,7 @@ use sphere::point::{Grid, Point};
 // What the sheet's checks say; whether a plane was found that has all vertices strictly ahead; and the answer to the
 // antipode of vertex 0, which is behind every such plane; whether the zone has a box of its own, and its box. Beside a
 // refusal the others mean nothing.
-#[derive(Drop)]
+#[derive(Clone, Copy)]
 pub struct Extent {
     pub check: Check,
     pub found: bool,

@@ -12,7 +12,7 @@ use separation::planes::is_ahead;
 use sphere::point::Point;
 
 // The lower and the upper bounds of x, y and z, in units of 2^-30.
-#[derive(Drop)]
+#[derive(Clone, Copy)]
 pub struct Sides {
     pub low: Point,
     pub high: Point,

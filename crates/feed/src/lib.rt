@@ -1,6 +1,7 @@
 // A whole feed in one call: document 02's P1. Here, in order: size_check (26, 27), feed_boxed (26, 27, 10, 28, 11 to
 // 16), store_result, mode_for, judge_one, judge_all, judge_by_index, judge_each, judge_feed. Nothing of the polygon is
 // copied for a query, and its boxes are built once. A second point that is all zero is none (document 02, P4).
+#![tactic(auto)]
 pub mod indexed;
 
 ghost use Rattle.std.specs.Prelude.{◌≡◌, ◌+◌, ◌*◌, ◌≤◌, ◌<◌, ltb, length};

@@ -9,7 +9,7 @@ use answer::Check;
 use big_endian::read;
 
 // What the check of one field says: how many bytes its body has, or a refusal.
-#[derive(Drop)]
+#[derive(Clone, Copy)]
 pub enum Body {
     Size(usize),
     Refused(u32, usize),

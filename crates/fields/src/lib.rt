@@ -4,6 +4,7 @@
 // 24). One field is in `field`.
 // A later field is looked at only where those before it have passed. The lengths that say where the fields begin and
 // end are read once and handed on: read again they might be others, where somebody writes to the bytes meanwhile.
+#![tactic(auto)]
 ghost use Rattle.std.specs.Prelude.{◌≡◌, ◌+◌, ◌≤◌, ◌<◌, eqb, length};
 ghost use Rattle.big_endian.specs.Bytes.{byte_at, short_at};
 ghost use Rattle.answer.specs.declared.Check.TheVariants.{Passed};
@@ -22,7 +23,7 @@ use sphere::point::Grid;
 
 // What the checks of a sheet's fields say, and what of the fields bounds a part of the bytes: the lengths of the name
 // and of the vertices, the grid, and whether there is a second point. Beside a refusal all are 0.
-#[derive(Drop)]
+#[derive(Clone, Copy)]
 pub struct Parts {
     pub check: Check,
     pub name: usize,

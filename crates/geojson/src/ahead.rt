@@ -9,7 +9,7 @@ use positions::grammar::State;
 use positions::number::Pending;
 
 // The place that is read next, the grammar's state there, and the number that is being read.
-#[derive(Drop)]
+#[derive(Clone, Copy)]
 pub struct Reached {
     pub at: usize,
     pub state: State,

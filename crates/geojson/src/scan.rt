@@ -14,14 +14,14 @@ use positions::ring::Ring;
 use positions::{grammar, number, ring};
 use sphere::point::Grid;
 
-#[derive(Drop)]
+#[derive(Clone, Copy)]
 pub struct Reader {
     pub pending: Pending,
     pub ring: Ring,
 }
 
 // The positions that are kept, or a refusal.
-#[derive(Drop)]
+#[derive(Clone, Copy)]
 pub enum Scanned {
     Kept(usize),
     Refused(u32, usize),

@@ -53,7 +53,7 @@ fn judge_from(known: Point, second: Point, query: Point) -> Point
 }
 
 // An answer and, where the mode of the search counts them, how many edges were looked at for it (document 02, P2).
-#[derive(Drop)]
+#[derive(Clone, Copy)]
 pub struct Judgement {
     pub answer: Answer,
     pub looked: u32,

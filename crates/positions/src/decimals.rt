@@ -5,7 +5,7 @@ ghost use Rattle.positions.specs.Number.{is_digit, Small, onward, DigitRun};
 use crate::number::{Pending, is_digit, next};
 
 // What is read after `count` decimals.
-#[derive(Drop)]
+#[derive(Clone, Copy)]
 pub struct Run {
     pub pending: Pending,
     pub count: usize,

@@ -7,13 +7,13 @@ ghost use Rattle.positions.specs.Text.{literal, is_point};
 
 use crate::tables::{CLASSES, GAPS, RING, WORDS};
 
-#[derive(Drop)]
+#[derive(Clone, Copy)]
 pub struct State {
     pub at: u64,
     pub ring: u64,
 }
 
-#[derive(Drop)]
+#[derive(Clone, Copy)]
 pub enum Reading {
     Whole,
     Dead(usize),

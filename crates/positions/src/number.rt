@@ -7,7 +7,7 @@ use angles::point::{Position, signed};
 
 // The number that is being read, its size at most 200 degrees, and the one before it in its position.
 // `unit` is what the last digit counts: 0 before the point.
-#[derive(Drop)]
+#[derive(Clone, Copy)]
 pub struct Pending {
     pub size: u64,
     pub unit: u64,

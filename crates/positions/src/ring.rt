@@ -11,7 +11,7 @@ use sphere::point::wide;
 
 // What is kept of the positions so far: how many, the first and the last of them, the first that is out of range, and
 // the first that is too far from the next.
-#[derive(Drop)]
+#[derive(Clone, Copy)]
 pub struct Ring {
     pub count: usize,
     pub first: Position,

@@ -8,7 +8,7 @@ use sphere::point::{Grid, Point};
 
 // Its two ends and the plane through them, whose normal is worked out once; and whether the search asks the boxes, or
 // goes over the whole polygon.
-#[derive(Drop)]
+#[derive(Clone, Copy)]
 pub struct Arc {
     pub from: Point,
     pub to: Point,

@@ -19,7 +19,7 @@ use sphere::plane::{Plane, side_of};
 use sphere::point::Grid;
 
 // An edge where a scan stops, and the sides of its ends.
-#[derive(Drop)]
+#[derive(Clone, Copy)]
 pub struct Near {
     pub edge: usize,
     pub start: i64,

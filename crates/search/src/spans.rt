@@ -49,7 +49,7 @@ fn run_start(n: usize, r: usize) -> usize
 }
 
 // Edges that are walked together, and the run to go on from.
-#[derive(Drop)]
+#[derive(Clone, Copy)]
 pub struct Span {
     pub from: usize,
     pub to: usize,

@@ -27,7 +27,7 @@ use sphere::point::{Grid, Point};
 
 // What one edge says of a query: it is border and holds it, or which way the arc crosses it (0: not at all). Here,
 // where a walk asks for edges that hold the query, the first says so of any that does.
-#[derive(Drop)]
+#[derive(Clone, Copy)]
 pub enum EdgeTest {
     OnBorder,
     Way(i32),
@@ -65,7 +65,7 @@ pub fn counted(way: i32) -> u32
 
 // What some edges say: the first that is border and holds the query, or by a walk any that holds it; or else the
 // crossings and their sum.
-#[derive(Drop)]
+#[derive(Clone, Copy)]
 pub enum Tally {
     Held(usize),
     Crossed(u32, i32),
@@ -171,7 +171,7 @@ fn tally_edges(
 }
 
 // The same, and how many edges are looked at for it (document 02, P2).
-#[derive(Drop)]
+#[derive(Clone, Copy)]
 pub struct Searched {
     pub tally: Tally,
     pub looked: u32,
@@ -202,7 +202,7 @@ fn count_edges(grid: Grid, vertices: &[i32], boxes: &[i32], known: Point, query:
 }
 
 // How all edges are searched: every one; those that the boxes leave; or these, and their number is worked out.
-#[derive(Drop)]
+#[derive(Clone, Copy)]
 pub enum Mode {
     Plain,
     Boxed,

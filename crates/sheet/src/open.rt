@@ -20,7 +20,7 @@ use sphere::point::{Grid, Point};
 
 // What the checks of a sheet say, and its points if they passed: the second is all zero where the sheet has none, and
 // `count` is the number of vertices; `name` is the name's length.
-#[derive(Drop)]
+#[derive(Clone, Copy)]
 pub struct Opened {
     pub check: Check,
     pub grid: Grid,

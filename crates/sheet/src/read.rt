@@ -12,7 +12,7 @@ use sphere::point::{Grid, Point};
 
 // What reading hands back: document 01's answer, and the parts of the sheet, all zero on a refusal, and the coarse
 // grid. The second point is all zero too where the sheet has none.
-#[derive(Drop)]
+#[derive(Clone, Copy)]
 pub struct Sheet {
     pub answer: Answer,
     pub zone: u32,

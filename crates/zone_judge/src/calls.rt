@@ -11,7 +11,7 @@ use libc::{EAGAIN, EINTR};
 const TRIES_MOST: u64 = 18_000_000_000_000_000_000;
 
 // The bytes that were read, and whether the reading failed. Without a failure, fewer than asked means the input's end.
-#[derive(Drop)]
+#[derive(Clone, Copy)]
 pub(crate) struct Filled {
     pub size: usize,
     pub failed: bool,

@@ -7,6 +7,7 @@
 // judging and writing lie apart, in `input`, `judging` and `lines`, over the system's `calls`. Proved: each function is
 // safe and ends, and the bytes of a line are those of specs/Line.antt. What the library answers is proved in `zone` and the
 // crates under it; what the system reads and writes is not said anywhere.
+#![tactic(auto)]
 mod calls;
 mod input;
 mod judging;
