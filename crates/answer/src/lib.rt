@@ -2,6 +2,7 @@
 // (of an answer), fails_if. Each function is proved equal to its definition in specs/; searching, counting and summing
 // by index, chains of checks and what a buffer holds after a refusal are defined there too, with their laws.
 #![tactic(auto)]
+
 ghost use Rattle.std.specs.Prelude.{◌≡◌};
 ghost use Rattle.answer.specs.Answer.{number_of, place_of, count_of, sum_of};
 ghost use Rattle.answer.specs.Chain.{fails_if};

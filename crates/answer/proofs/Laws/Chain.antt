@@ -1,7 +1,7 @@
 -- Chains of checks. Proved, in order: failed_not_passed, passed, here_passed, fails_at_passed, then_passed, then_assoc,
 -- after_then, after_refused (a refusal's answer has its number and place); both_true.
 use mathlib.Core.Path.{◌≡◌, refl, sym}
-use mathlib.Core.Bool.{Bool, true, false, not, ◌&&◌, true≢false}
+use mathlib.Core.Bool.{Bool, true, false, ◌&&◌, true≢false}
 use Prim.Native.Nat.{ℕ}
 use native.Mathlib.Omega.{arith}
 use Rattle.answer.specs.declared.Found.{Found}

@@ -2,7 +2,7 @@
 -- Proved, in order: passed_numbered, failed_numbered, then_numbered, _both_ (checks in a chain), here_numbered,
 -- if_numbered, at_numbered, where_numbered, unless_numbered, after_numbered (of an answer).
 use mathlib.Core.Path.{◌≡◌, refl, sym, subst}
-use mathlib.Core.Bool.{Bool, true, false, not, cond}
+use mathlib.Core.Bool.{Bool, true, false, cond}
 use Prim.Native.Nat.{ℕ}
 use Rattle.answer.specs.declared.Found.{Found}
 use Rattle.answer.specs.declared.Found.TheVariants.{Nothing, At}
