@@ -2,7 +2,7 @@
 -- positive: M is amid the edge). Proved, in order: some_positive; level_sum, front, back (the orientations with M, by
 -- those with A and B); start_hit, end_hit (where a factor is 0, M is at an end); on_summed, on_edge_cases (a point on an
 -- edge is at an end or amid it), amid_inner.
-use mathlib.Core.Path.{◌≡◌, refl, sym, ◌∙◌}
+use mathlib.Core.Path.{◌≡◌, sym, ◌∙◌}
 use mathlib.Core.List.{List, [], ◌∷◌}
 use mathlib.Core.Bool.{true, false, ◌&&◌, ◌||◌, beq, true≢false}
 use lib.Dec.{T}

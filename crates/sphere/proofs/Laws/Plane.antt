@@ -6,7 +6,7 @@ use Rattle.sphere.specs.declared.point.Point.{Point}
 use Rattle.sphere.specs.declared.point.Grid.{Grid}
 use Rattle.sphere.specs.declared.point.Grid.TheVariants.{Coarse, Fine}
 use Rattle.sphere.specs.declared.plane.Plane.{Plane}
-use Rattle.sphere.specs.Point.{coarse, fine, limit_of, minors, Within}
+use Rattle.sphere.specs.Point.{fine, limit_of, minors, Within}
 use Rattle.sphere.specs.Orientation.{orientation_of, cross_of, dot_of}
 use Rattle.sphere.specs.Approximate.{Exactly}
 use Rattle.sphere.specs.Plane.{plane_of, FloatsFor, Sound}

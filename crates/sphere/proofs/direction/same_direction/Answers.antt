@@ -1,0 +1,21 @@
+-- `same_direction` meets its contract: the dot product is worked out only for parallel points.
+use mathlib.Core.Path.{sym, ◌∙◌}
+use borrow.Author.Rules.{sfits_of}
+use mir.Syntax.{w64}
+use Rattle.integers.proofs.Compare.{positive_test}
+use Rattle.sphere.specs.Direction.{is_same_direction}
+use Rattle.sphere.proofs.Laws.Grid.{points_dot}
+use Rattle.sphere.proofs.direction.same_direction.Goals as goal
+
+pub dot-requires : goal.dot-requires
+dot-requires c = let start = c.before.before in points_dot start.requires.0 start.requires.1
+
+pub returns-then-parallel : goal.returns-then-parallel
+unfolding is_same_direction
+returns-then-parallel c =
+    rw (sym c.before.before.parallel.ensures ∙ c.before.if-parallel.true, ← c.dot.ensures)
+    (positive_test w64 c.dot.result (sfits_of c.dot.type_inv))
+
+pub returns : goal.returns
+unfolding is_same_direction
+returns c = rw (sym c.before.parallel.ensures ∙ c.if-parallel.false)
