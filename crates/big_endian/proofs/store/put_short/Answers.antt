@@ -1,0 +1,13 @@
+-- `store::put_short` meets its contract.
+use native.Mathlib.Omega.{arith}
+use native.Mathlib.Numerals.{towards_suc}
+use lib.ListN.{length-set}
+use Rattle.big_endian.specs.Bytes.{short_bytes}
+use Rattle.big_endian.proofs.store.put_short.Goals as goal
+
+pub bounds-b-at-2 : goal.bounds-b-at-2
+bounds-b-at-2 c = simp length-set (omega arith)
+
+pub returns : goal.returns
+unfolding short_bytes
+returns c = simp towards_suc
