@@ -1,6 +1,5 @@
 -- The series falls, and y times it rises, as y grows up to 3.
-use mathlib.Core.Path.{◌≡◌, refl, sym, subst}
-use Prim.Native.Nat.{ℕ, zero, suc, ◌+◌, ◌-◌, ◌*◌, ◌≤◌, ◌<◌}
+use Prim.Native.Nat.{ℕ, zero, suc, ◌+◌, ◌-◌, ◌*◌, ◌≤◌}
 use native.Mathlib.Nat.{le_refl, mul-le-mul_right, mul-le-mul_left, mul-le-mul, mul-sub}
 use native.Mathlib.Omega.{arith}
 use Rattle.angles.specs.Series.{den, num}

@@ -3,7 +3,6 @@ use mathlib.Core.Path.{◌≡◌, sym, ap, ap₂, ◌∙◌}
 use mathlib.Core.Bool.{Bool, true, false, ◌||◌}
 use Prim.Native.Nat.{ℕ, zero, suc, ◌≤◌, ◌<◌}
 use native.Mathlib.Omega.{arith}
-use borrow.Author.Rules.{rules}
 use lib.IntN.{ℤ, pos, neg_ℤ, ◌-ℤ◌, +ℤ_idl}
 use lib.Signed.{lt_z}
 use mir.Syntax.{w64}
@@ -11,8 +10,7 @@ use mir.Val.{SFits, to_z, of_z}
 use mir.ValLaws.{to_z_pos, to_z-of_z}
 use Rattle.integers.proofs.Compare.{size_test}
 use Rattle.sphere.specs.Point.{is_far}
-use Rattle.angles.proofs.point.is_past.Statement.{statement}
-use Rattle.angles.proofs.point.is_past.Tie as tie
+use Rattle.angles.proofs.point.is_past.Goals as goal
 
 none : 0 < 0 → ⊥
 none h = omega arith
@@ -49,21 +47,15 @@ module _ (n : ℕ) (k : ℤ) (more : 0 < n) (small : n ≤ 4294967295) (given : 
     pub far_else : (t || lt_z (to_z w64 n) (to_z w64 (of_z w64 k))) ≡ is_far n k
     far_else = ap (λ b. t || b) (ap₂ lt_z most number) ∙ far
 
-cast-m : tie.Need-overflow-cast-m
-cast-m c = search rules
+pub overflow_sub-m : goal.overflow_sub-m
+overflow_sub-m c = fits c.args.most c.args.k c.requires.0 c.requires.1 c.ranges.k
 
-sub-if1 : tie.Need-overflow-sub-if1
-sub-if1 c = fits c.args.most c.args.k c.requires.0 c.requires.1 c.ranges.k
+pub returns-then-k-m : goal.returns-then-k-m
+returns-then-k-m c =
+    let i = c.before in
+    far i.args.most i.args.k i.requires.0 i.requires.1 i.ranges.k true c.if-k-m.true
 
-returns : tie.Need-returns
+pub returns : goal.returns
 returns c =
     let i = c.before in
-    far i.args.most i.args.k i.requires.0 i.requires.1 i.ranges.k true c.if1.true
-
-returns-2 : tie.Need-returns-2
-returns-2 c =
-    let i = c.before in
-    far_else i.args.most i.args.k i.requires.0 i.requires.1 i.ranges.k false c.if1.false
-
-pub is_past_spec : {M : Type 1} → statement M
-is_past_spec = tie.close (tie.spec cast-m sub-if1 returns returns-2)
+    far_else i.args.most i.args.k i.requires.0 i.requires.1 i.ranges.k false c.if-k-m.false
