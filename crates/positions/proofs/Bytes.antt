@@ -2,7 +2,7 @@
 -- AreBytes, of big_endian).
 use mathlib.Core.Bool.{Bool, true, ◌&&◌}
 use mathlib.Core.List.{List, [], ◌∷◌}
-use Prim.Native.Nat.{ℕ, zero, suc, ◌<◌}
+use Prim.Native.Nat.{ℕ, zero, suc}
 use lib.Dec.{T, ltb, ltb→lt, lt→ltb, lit<}
 use lib.Ieee.Fits.{and_i, and_l, and_r}
 use Rattle.big_endian.specs.Bytes.{AreBytes}

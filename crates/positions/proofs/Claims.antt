@@ -3,17 +3,17 @@
 use mathlib.Core.Path.{◌≡◌, refl, sym, ap, ◌∙◌}
 use mathlib.Core.Bool.{Bool, true, false, not, ◌&&◌, ◌||◌}
 use mathlib.Core.List.{List, [], ◌∷◌, ◌++◌}
-use Prim.Native.Nat.{ℕ, zero, suc, ◌+◌, ◌≤◌, ◌<◌}
+use Prim.Native.Nat.{ℕ, suc, ◌+◌, ◌≤◌, ◌<◌}
 use native.Mathlib.Omega.{arith}
 use lib.Dec.{T, eqb}
 use lib.ListN.{length, take, drop, get_or}
 use lib.Seq.{get_or-drop, drop-drop}
-use lib.Ieee.Fits.{and_i, and_l, and_r}
+use lib.Ieee.Fits.{and_i, and_r}
 use Rattle.positions.specs.declared.grammar.State.{State}
 use Rattle.positions.specs.declared.grammar.Reading.{Reading}
 use Rattle.positions.specs.declared.grammar.Reading.TheVariants.{Whole, Dead}
 use Rattle.positions.specs.Text.{next_of, start, pick_reading, read}
-use Rattle.positions.specs.Claims.{IsText, Longest, LongestBeginning}
+use Rattle.positions.specs.Claims.{LongestBeginning}
 use Rattle.positions.proofs.Viable.{alive, whole, only_alive, finish, after, completes, completes_in_bytes}
 
 abbrev ended : Bool → Bool → ℕ → Reading

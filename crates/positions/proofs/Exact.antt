@@ -2,28 +2,27 @@
 -- size), clamp_all. Proved, in order: clamp_signed, digit_held, pending_held, step_held, walked_held; outside_clamp,
 -- first_clamp, same_clamp, check_clamp; held_check, held_length, held_same.
 use mathlib.Core.Path.{◌≡◌, refl, sym, ap, ◌∙◌}
-use mathlib.Core.Bool.{Bool, true, false, not, cond, ◌||◌, true≢false}
+use mathlib.Core.Bool.{Bool, true, false, cond}
 use mathlib.Core.List.{List, [], ◌∷◌, ◌++◌}
-use Prim.Native.Nat.{ℕ, zero, suc, ◌+◌, ◌-◌, ◌*◌, ◌/◌, ◌≤◌, ◌<◌, min}
+use Prim.Native.Nat.{ℕ, zero, suc, ◌+◌, ◌-◌, ◌*◌, ◌/◌, ◌<◌, min}
 use native.Mathlib.Omega.{arith}
 use borrow.Author.Tests.{ltb-true, ltb-false, lt-ltb, le-ltb}
 use lib.Dec.{eqb, ltb}
-use lib.IntN.{ℤ, pos, negsuc, nat_abs}
+use lib.IntN.{ℤ, pos, negsuc}
 use lib.ListN.{length, get_or}
 use Rattle.sphere.specs.Point.{is_far}
 use Rattle.answer.specs.declared.Found.{Found}
 use Rattle.answer.specs.declared.Found.TheVariants.{Nothing, At}
-use Rattle.answer.specs.declared.Check.{Check}
-use Rattle.answer.specs.declared.Check.TheVariants.{Passed, Failed}
-use Rattle.answer.specs.Chain.{◌then◌, fails_if, fails_at}
+use Rattle.answer.specs.declared.Check.TheVariants.{Passed}
+use Rattle.answer.specs.Chain.{fails_at}
 use Rattle.answer.proofs.Laws.Chain.{then_passed}
 use Rattle.angles.specs.declared.point.Position.{Position}
 use Rattle.angles.specs.Point.{signed_of, is_outside}
 use Rattle.angles.proofs.Numbers.{neither}
 use Rattle.positions.specs.declared.number.Pending.{Pending}
 use Rattle.positions.specs.Number.{Walk, fresh, digit_of, is_digit, pending_of, is_end, position_of, stepped}
-use Rattle.positions.specs.Number.{walked, exact, positions_of, most, held}
-use Rattle.positions.specs.Ring.{first_outside, first_distant, is_ring, ring_check}
+use Rattle.positions.specs.Number.{walked, exact, positions_of, held}
+use Rattle.positions.specs.Ring.{first_outside, ring_check}
 
 abbrev clamp : ℤ → ℤ
 clamp (pos n) = pos (min n 2000000000)

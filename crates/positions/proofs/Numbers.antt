@@ -1,7 +1,7 @@
 -- The numbers of what is being read, as a proof meets them. Proved, in order: lon_of (that the longitude fits its
 -- type), called2 (what a call says of two numbers held as bits), difference_same, digit_range, digit_no_end.
 use mathlib.Core.Path.{◌≡◌, sym, ap₂, ◌∙◌}
-use mathlib.Core.Bool.{Bool, true, false, ◌&&◌, true≢false}
+use mathlib.Core.Bool.{Bool, true, false}
 use Prim.Native.Nat.{ℕ, ◌^◌, ◌≤◌, ◌<◌}
 use native.Mathlib.Omega.{arith}
 use borrow.Author.Tests.{leb-true, ne_eqb}

@@ -1,23 +1,22 @@
 -- What is kept of a list of positions, and of the bytes so far. Defined: ring_of. Proved, in order: outside_snoc,
 -- last_snoc, distant_snoc, ring_snoc (one position more), check_of_ring; small_next, small_walked, done_length (at
 -- most one position to a byte).
-use mathlib.Core.Path.{◌≡◌, refl, sym, ap, ◌∙◌}
+use mathlib.Core.Path.{◌≡◌, refl, ap, ◌∙◌}
 use mathlib.Core.Bool.{Bool, true, false, cond}
 use mathlib.Core.List.{List, [], ◌∷◌, ◌++◌}
-use Prim.Native.Nat.{ℕ, zero, suc, ◌+◌, ◌-◌, ◌*◌, ◌/◌, ◌≤◌, ◌<◌, min}
+use Prim.Native.Nat.{ℕ, zero, suc, ◌+◌, ◌-◌, ◌≤◌}
 use native.Mathlib.Omega.{arith}
 use borrow.Author.Tests.{ne_eqb}
 use lib.Dec.{eqb}
 use lib.ListN.{length, length-append, get_or}
-use Rattle.answer.specs.declared.Found.{Found}
-use Rattle.answer.specs.declared.Found.TheVariants.{Nothing, At}
+use Rattle.answer.specs.declared.Found.TheVariants.{At}
 use Rattle.angles.specs.declared.point.Position.{Position}
 use Rattle.angles.specs.Point.{is_outside}
 use Rattle.positions.specs.declared.number.Pending.{Pending}
 use Rattle.positions.specs.declared.ring.Ring.{Ring}
 use Rattle.positions.specs.Number.{Small, Walk, fresh, digit_of, is_digit, pending_of, is_end, position_of, stepped}
 use Rattle.positions.specs.Number.{walked, held}
-use Rattle.positions.specs.Ring.{is_distant, first_outside, distant_after, first_distant, first_of, origin}
+use Rattle.positions.specs.Ring.{is_distant, first_outside, distant_after, first_distant, first_of}
 use Rattle.positions.specs.Ring.{last_after, last_of, is_ring, ring_check, earliest_of, added_of, check_of}
 
 abbrev pub ring_of : List Position → Ring

@@ -1,14 +1,13 @@
 -- A state stays one, and what `read` gives, step by step.
-use mathlib.Core.Path.{◌≡◌, refl, sym, ap, ◌∙◌, subst}
+use mathlib.Core.Path.{◌≡◌, refl}
 use mathlib.Core.Bool.{Bool, true, false}
 use mathlib.Core.List.{List}
-use Prim.Native.Nat.{ℕ, zero, suc, ◌+◌, ◌-◌, ◌*◌, ◌≤◌, ◌<◌}
+use Prim.Native.Nat.{ℕ, suc, ◌+◌, ◌-◌, ◌*◌, ◌≤◌, ◌<◌}
 use native.Mathlib.Omega.{arith}
 use lib.Dec.{ltb, eqb}
 use lib.ListN.{get_or}
 use borrow.Author.Tests.{ltb-true, eq-eqb, ne_eqb}
 use Rattle.positions.specs.declared.grammar.State.{State}
-use Rattle.positions.specs.declared.grammar.Reading.{Reading}
 use Rattle.positions.specs.declared.grammar.Reading.TheVariants.{Whole, Dead}
 use Rattle.positions.specs.Text.{words, gaps, rows, class_of, pick, dead, ring_next, literal, next_of, pick_reading}
 use Rattle.positions.specs.Text.{read}

@@ -2,14 +2,14 @@
 -- can have. Defined: alive, whole (a text by its states), finish (a rest that completes it), Reached, after. Proved, in
 -- order: only_alive, finishes (one computed table), next_reached, after_reached, whole_append; completes,
 -- completes_in_bytes.
-use mathlib.Core.Path.{◌≡◌, refl, sym, ap, ◌∙◌, subst}
+use mathlib.Core.Path.{◌≡◌, refl, sym, subst}
 use mathlib.Core.Bool.{Bool, true, false, not, cond, ◌&&◌, ◌||◌}
 use mathlib.Core.List.{List, [], ◌∷◌, ◌++◌}
-use Prim.Native.Nat.{ℕ, zero, suc, ◌+◌, ◌-◌, ◌*◌, ◌≤◌, ◌<◌}
+use Prim.Native.Nat.{ℕ, zero, suc, ◌+◌, ◌*◌, ◌<◌}
 use native.Mathlib.Nat.{eq-or-lt_of_le, le_of_suc-le-suc}
-use mathlib.Core.Logic.{◌⊎◌, inl, inr}
+use mathlib.Core.Logic.{inl, inr}
 use native.Mathlib.Omega.{arith}
-use lib.Dec.{T, T_not, eqb, ltb, leb, eqb→eq, ltb→lt, eqb_refl}
+use lib.Dec.{T, T_not, eqb, ltb, eqb_refl}
 use lib.Arith.{lt_of_le-ne}
 use Rattle.positions.proofs.TextLaws.{next_ok}
 use lib.Ieee.Fits.{and_i, and_l, and_r}

@@ -4,7 +4,7 @@
 -- bytes); exact, positions_of; most, held, Small, onward, DigitRun. A number is in ten-millionths of a degree, and has
 -- any number of digits before the point. The code holds no more of its size than 200 degrees, so each definition takes
 -- what is held of a size: positions_of has all of it.
-use Rattle.std.specs.Prelude.{◌≡◌, Bool, true, false, cond, ◌&&◌, List, [], ◌∷◌, ◌++◌, ℕ, zero, suc, ◌+◌, ◌-◌, ◌*◌, ◌/◌, ◌≤◌, ◌<◌, min, eqb, leb, ℤ, pos, neg_ℤ, length, get_or}
+use Rattle.std.specs.Prelude.{◌≡◌, Bool, true, false, cond, ◌&&◌, List, [], ◌∷◌, ◌++◌, ℕ, zero, suc, ◌+◌, ◌-◌, ◌*◌, ◌/◌, ◌≤◌, ◌<◌, min, eqb, leb, pos, length, get_or}
 use Rattle.angles.specs.declared.point.Position.{Position}
 use Rattle.angles.specs.Point.{signed_of}
 use Rattle.positions.specs.declared.number.Pending.{Pending}

@@ -2,13 +2,12 @@
 -- is_distant, is_same; first_outside, distant_after, first_distant, origin, first_of, last_after, last_of, is_ring; ring_check (31,
 -- 32, 33), kept_of; earliest_of, empty_ring, added_of, check_of (the code's, one position after the other). Positions are
 -- numbered from 0, and the closing one counts.
-use Rattle.std.specs.Prelude.{Bool, true, false, not, cond, ◌&&◌, ◌||◌, List, [], ◌∷◌, ◌++◌, ℕ, zero, suc, ◌+◌, ◌-◌, eqb, leb, ltb, ℤ, pos, ◌-ℤ◌, length, take}
+use Rattle.std.specs.Prelude.{Bool, not, cond, ◌&&◌, ◌||◌, List, [], ◌∷◌, ℕ, suc, ◌+◌, ◌-◌, eqb, leb, pos, ◌-ℤ◌, length, take}
 use Rattle.integers.specs.Sign.{sign_of, is_zero}
 use Rattle.sphere.specs.Point.{is_far}
 use Rattle.answer.specs.declared.Found.{Found}
 use Rattle.answer.specs.declared.Found.TheVariants.{Nothing, At}
 use Rattle.answer.specs.declared.Check.{Check}
-use Rattle.answer.specs.declared.Check.TheVariants.{Passed, Failed}
 use Rattle.answer.specs.Chain.{◌then◌, fails_if, fails_at}
 use Rattle.angles.specs.declared.point.Position.{Position}
 use Rattle.angles.specs.Point.{is_outside}

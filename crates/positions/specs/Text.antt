@@ -3,7 +3,7 @@
 -- believe what stands here. Defined, in order: words, gaps (the two texts around the ring), class_of, class_table
 -- (classes of bytes), rows (the ring), dead, pick, ring_next, literal, next_of (one byte more), start, read (a whole
 -- text); is_point (the code's). Claims: what read calls dead is no text's beginning, and what comes before it is.
-use Rattle.std.specs.Prelude.{Bool, true, false, cond, ◌&&◌, ◌||◌, List, [], ◌∷◌, ℕ, zero, suc, ◌+◌, ◌-◌, ◌*◌, ◌/◌, ◌%◌, ◌<◌, eqb, leb, ltb, length, get_or}
+use Rattle.std.specs.Prelude.{Bool, true, false, cond, ◌&&◌, ◌||◌, List, [], ◌∷◌, ℕ, zero, suc, ◌+◌, ◌*◌, eqb, leb, ltb, get_or}
 use Rattle.positions.specs.declared.grammar.State.{State}
 use Rattle.positions.specs.declared.grammar.Reading.{Reading}
 use Rattle.positions.specs.declared.grammar.Reading.TheVariants.{Whole, Dead}

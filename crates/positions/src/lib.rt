@@ -2,6 +2,7 @@
 // number (numbers and positions, one byte after the other), decimals (up to seven at once), ring (31 to 33). Each
 // function is proved equal to its definition in specs/.
 #![tactic(auto)]
+
 pub mod decimals;
 pub mod grammar;
 pub mod number;

@@ -121,6 +121,7 @@ pub fn added(r: Ring, p: Position) -> Ring
 }
 
 // 31, 32 and 33, in this order.
+#[tactic(auto, unfolding(crate::specs::Ring::check_of))]
 pub fn ring_check(r: Ring) -> Check
     ensures { result ≡ check_of r }
 {

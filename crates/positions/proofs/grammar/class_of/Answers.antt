@@ -1,5 +1,4 @@
 -- `grammar::class_of` meets its contract.
-use mathlib.Core.Path.{◌≡◌, refl, sym, ap, ◌∙◌}
 use mathlib.Core.Bool.{Bool}
 use Prim.Native.Nat.{ℕ}
 use lib.Dec.{ltb, eqb, ltb→lt, eqb→eq}
@@ -7,26 +6,16 @@ use lib.ListN.{get_or}
 use Rattle.positions.specs.Text.{class_table, class_of}
 use Rattle.positions.proofs.Table.{at}
 use borrow.Author.Rules.{rules}
-use Rattle.positions.proofs.grammar.class_of.Statement.{statement}
-use Rattle.positions.proofs.grammar.class_of.Tie as tie
+use Rattle.positions.proofs.grammar.class_of.Goals as goal
 
 right : ℕ → ℕ → Bool
 right k x = eqb x (class_of k)
 
-mul-result : tie.Need-overflow-mul-result
-mul-result c = search rules
-
-element-copy-out-result : tie.Need-element-copy-out-result
-element-copy-out-result c = search rules
-
-returns : tie.Need-returns
+pub returns : goal.returns
 unfolding class_table class_of right
 returns c =
-    let b = c.before.args.b in
-    rw c.before.requires (
+    let b = c.args.b in
+    rw c.requires (
       eqb→eq (get_or class_table b 0) (class_of b) (at right class_table tt b (search rules)),
       ltb→lt (get_or class_table b 0) 9 (at (λ (k : ℕ) (x : ℕ). ltb x 9) class_table tt b (search rules)),
     )
-
-pub class_of_spec : {M : Type 1} → statement M
-class_of_spec = tie.close (tie.spec mul-result element-copy-out-result returns)

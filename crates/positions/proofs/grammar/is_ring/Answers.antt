@@ -1,5 +1,5 @@
 -- `is_ring` meets its contract: the ring stands at two places.
-use mathlib.Core.Path.{◌≡◌, refl, sym, ◌∙◌}
+use mathlib.Core.Path.{◌≡◌, refl}
 use mathlib.Core.Bool.{Bool, true, false, ◌||◌}
 use Prim.Native.Nat.{ℕ, ◌<◌}
 use borrow.Author.Tests.{eq-eqb, ne_eqb}
@@ -7,8 +7,7 @@ use lib.Dec.{T, eqb}
 use lib.ListN.{get_or}
 use Rattle.positions.specs.Text.{words}
 use Rattle.positions.proofs.Table.{at}
-use Rattle.positions.proofs.grammar.is_ring.Statement.{statement}
-use Rattle.positions.proofs.grammar.is_ring.Tie as tie
+use Rattle.positions.proofs.grammar.is_ring.Goals as goal
 
 same : Bool → Bool → Bool
 same true b = b
@@ -29,11 +28,8 @@ two_places : (k : ℕ) → k < 76 → eqb (get_or words k 0) 256 ≡ (eqb k 34 |
 unfolding words test same
 two_places k h = same_eq (eqb (get_or words k 0) 256) (eqb k 34 || eqb k 55) (at test words tt k h)
 
-returns : tie.Need-returns
-returns c = rw (two_places _ c.before.requires, eq-eqb _ _ c.if1.true)
+pub returns-then-at-eq34 : goal.returns-then-at-eq34
+returns-then-at-eq34 c = rw (two_places _ c.requires, eq-eqb _ _ c.if-at-eq34.true)
 
-returns-2 : tie.Need-returns-2
-returns-2 c = rw (two_places _ c.before.requires, ne_eqb _ _ c.if1.false)
-
-pub is_ring_spec : {M : Type 1} → statement M
-is_ring_spec = tie.close (tie.spec returns returns-2)
+pub returns : goal.returns
+returns c = rw (two_places _ c.requires, ne_eqb _ _ c.if-at-eq34.false)
