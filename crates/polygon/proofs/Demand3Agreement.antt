@@ -1,5 +1,5 @@
 -- Two reference points agree on one query exactly when they agree on another: what each calls a query is its own bit
--- plus that of the query. Proved, in order: judged (a query that gets inside or outside), bits, agreement_pair;
+-- plus that of the query. Proved, in order: judged (a query that gets inside or outside), bits, alike, agreement_pair;
 -- agreement (of two points alone).
 use mathlib.Core.Path.{◌≡◌, refl, sym, ◌∙◌, ap}
 use mathlib.Core.Logic.{◌⊎◌, inl, inr}
@@ -75,41 +75,37 @@ same true false false q e = absurd (omega (arith, e))
 same false true true q e = absurd (omega (arith, e))
 same false true false q e = absurd (omega (arith, e))
 
-pub agreement_pair : AgreementPair
-agreement_pair limit vs X X' Y Y' P Q x y xP yP xQ yQ = record {
-  first→second = λ e. from-X Q xQ ∙ same a b p q (sym (from-X P xP) ∙ e ∙ from-Y P yP) ∙ sym (from-Y Q yQ);
-  second→first = λ e. from-X P xP ∙ same a b q p (sym (from-X Q xQ) ∙ e ∙ from-Y Q yQ) ∙ sym (from-Y P yP);
+-- Of any four answers, so that nothing of the answers themselves is looked at.
+alike : (a b p q : Bool) (k l m n : Answer) → number_of k ≡ cond (a ⊕ p) 2 1 → number_of l ≡ cond (b ⊕ p) 2 1 →
+    number_of m ≡ cond (a ⊕ q) 2 1 → number_of n ≡ cond (b ⊕ q) 2 1 → Alike k l m n
+alike a b p q k l m n ek el em en = record {
+  first→second = λ e. em ∙ same a b p q (sym ek ∙ e ∙ el) ∙ sym en;
+  second→first = λ e. ek ∙ same a b q p (sym em ∙ e ∙ en) ∙ sym el;
 }
-  where
-    a : Bool
-    a = bit limit vs X
 
-    b : Bool
-    b = bit limit vs Y
+alike_by : (k l m n k' l' m' n' : Answer) → number_of k' ≡ number_of k → number_of l' ≡ number_of l →
+    number_of m' ≡ number_of m → number_of n' ≡ number_of n → Alike k' l' m' n' → Alike k l m n
+alike_by k l m n k' l' m' n' ek el em en both = record {
+  first→second = λ e. sym em ∙ both.first→second (ek ∙ e ∙ sym el) ∙ en;
+  second→first = λ e. sym ek ∙ both.second→first (em ∙ e ∙ sym en) ∙ el;
+}
 
-    p : Bool
-    p = bit limit vs P
-
-    q : Bool
-    q = bit limit vs Q
-
-    from-X : (P : Point) → InOrOut (optional_answer_of limit vs X X' P) →
-        number_of (optional_answer_of limit vs X X' P) ≡ cond (bit limit vs X ⊕ bit limit vs P) 2 1
-    from-X P n = bits limit vs X X' P x n
-
-    from-Y : (P : Point) → InOrOut (optional_answer_of limit vs Y Y' P) →
-        number_of (optional_answer_of limit vs Y Y' P) ≡ cond (bit limit vs Y ⊕ bit limit vs P) 2 1
-    from-Y P n = bits limit vs Y Y' P y n
+pub agreement_pair : AgreementPair
+agreement_pair limit vs X X' Y Y' P Q x y xP yP xQ yQ =
+    alike (bit limit vs X) (bit limit vs Y) (bit limit vs P) (bit limit vs Q)
+    (optional_answer_of limit vs X X' P) (optional_answer_of limit vs Y Y' P)
+    (optional_answer_of limit vs X X' Q) (optional_answer_of limit vs Y Y' Q)
+    (bits limit vs X X' P x xP) (bits limit vs Y Y' P y yP) (bits limit vs X X' Q x xQ) (bits limit vs Y Y' Q y yQ)
 
 -- ---- two reference points alone
 pub agreement : Agreement
 agreement limit vs X Y P Q x y xP yP xQ yQ =
     let both = agreement_pair limit vs X origin Y origin P Q (alone limit vs X x) (alone limit vs Y y)
     (back X x P xP) (back Y y P yP) (back X x Q xQ) (back Y y Q yQ) in
-    record {
-      first→second = λ e. sym (to X x Q) ∙ both.first→second (to X x P ∙ e ∙ sym (to Y y P)) ∙ to Y y Q;
-      second→first = λ e. sym (to X x P) ∙ both.second→first (to X x Q ∙ e ∙ sym (to Y y Q)) ∙ to Y y P;
-    }
+    alike_by (answer_of limit vs X P) (answer_of limit vs Y P) (answer_of limit vs X Q) (answer_of limit vs Y Q)
+    (optional_answer_of limit vs X origin P) (optional_answer_of limit vs Y origin P)
+    (optional_answer_of limit vs X origin Q) (optional_answer_of limit vs Y origin Q)
+    (to X x P) (to Y y P) (to X x Q) (to Y y Q) both
   where
     to : (U : Point) → accept_check limit vs U ≡ Passed → (P : Point) →
         number_of (optional_answer_of limit vs U origin P) ≡ number_of (answer_of limit vs U P)

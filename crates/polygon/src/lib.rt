@@ -3,6 +3,7 @@
 // border is defined here, and worked out in crate corridors. The theorems about the verdict are here too; the judging
 // call is in crate judging.
 #![tactic(auto)]
+
 pub mod checks;
 pub mod grids;
 mod quick;

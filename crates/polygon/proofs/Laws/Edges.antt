@@ -10,7 +10,6 @@ use lib.Dec.{ltb}
 use lib.IntN.{ℤ}
 use Rattle.sphere.specs.declared.point.Point.{Point}
 use Rattle.sphere.specs.Point.{Within}
-use Rattle.answer.specs.declared.Found.TheVariants.{At}
 use Rattle.polygon.specs.Vertices.{vertices_count, vertex_at, next_of, start_of, end_of}
 use Rattle.polygon.specs.Accepted.{Gridded}
 

@@ -14,7 +14,6 @@ use Rattle.sphere.specs.Orientation.{orientation_of}
 use Rattle.sphere.specs.Direction.{is_antipodal}
 use Rattle.answer.specs.declared.Found.{Found}
 use Rattle.answer.specs.declared.Found.TheVariants.{Nothing, At}
-use Rattle.answer.specs.declared.Check.{Check}
 use Rattle.polygon.specs.declared.checks.Line.{Line}
 use Rattle.polygon.specs.declared.checks.Line.TheVariants.{Beyond, Null, Same, Antipodal}
 use Rattle.answer.specs.declared.Answer.TheVariants.{Inside, Outside}

@@ -1,14 +1,13 @@
 -- A polygon from last vertex to first is accepted with the same reference point. Proved, in order: reversed_list,
 -- reversed_beyond, reversed_circle; reversed_accepted, reversed_judged.
-use mathlib.Core.Path.{◌≡◌, refl, sym, ◌∙◌, ap, ap₂}
+use mathlib.Core.Path.{◌≡◌, sym, ◌∙◌, ap, ap₂}
 use mathlib.Core.Bool.{Bool, true, false, ◌&&◌}
 use mathlib.Core.List.{List}
 use Prim.Native.Nat.{ℕ, suc, ◌*◌, ◌-◌, ◌%◌, ◌/◌, ◌≤◌, ◌<◌}
 use native.Mathlib.Omega.{arith}
 use borrow.Author.Tests.{eq-eqb, le-leb}
 use lib.Dec.{eqb, leb}
-use lib.IntN.{ℤ, pos, neg_ℤ}
-use lib.ListN.{length}
+use lib.IntN.{ℤ, neg_ℤ}
 use Rattle.integers.specs.Sign.{sign_of, is_zero}
 use Rattle.sphere.specs.declared.point.Point.{Point}
 use Rattle.sphere.specs.Point.{is_beyond}
@@ -17,7 +16,7 @@ use Rattle.sphere.proofs.Laws.Orientation.{orientation_swap}
 use Rattle.sphere.proofs.Laws.OnEdge.{ne→not-zero}
 use Rattle.answer.specs.declared.Check.TheVariants.{Passed}
 use Rattle.answer.specs.Search.{first_from}
-use Rattle.answer.specs.Chain.{◌then◌, is_passed}
+use Rattle.answer.specs.Chain.{◌then◌}
 use Rattle.answer.proofs.Laws.Chain.{passed, fails_at_passed, then_passed}
 use Rattle.answer.proofs.Laws.First.{none_first}
 use Rattle.answer.proofs.Laws.Search.{first_none}
@@ -26,7 +25,7 @@ use Rattle.polygon.specs.Checks.{is_vertex_list, list_check, beyond_check, refer
 use Rattle.polygon.specs.Checks.{far_check, polygon_check, accept_check, judge_check}
 use Rattle.polygon.specs.Accepted.{Listed}
 use Rattle.polygon.proofs.Laws.Checks.{list_passed, polygon_first, accept_polygon, circle_passed, accept_short}
-use Rattle.polygon.proofs.Laws.Reversed.{reversed_length, reversed_count, reversed_vertex, Partner, partner}
+use Rattle.polygon.proofs.Laws.Reversed.{reversed_length, reversed_count, reversed_vertex, partner}
 use Rattle.polygon.proofs.Laws.Reversed.{reversed_mirrored}
 
 whole : (n : ℕ) → 3 ≤ n → n ≤ 4096 → (eqb (n * 3 % 3) 0 && (leb 3 (n * 3 / 3) && leb (n * 3 / 3) 4096)) ≡ true
