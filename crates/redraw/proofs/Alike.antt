@@ -2,7 +2,7 @@
 -- SameEdges (equal counts of every EdgeTest), Alike (what two lists' verdicts share), Bordered (a border edge holds the
 -- query). Proved, in order: started_same, reversed_same, lengthened_same; alike_undone, alike_next; off_count,
 -- count_off; class_border, clear_by; same_alike.
-use mathlib.Core.Path.{◌≡◌, refl, sym, ◌∙◌, ap, ap₂, fun_ext}
+use mathlib.Core.Path.{◌≡◌, refl, sym, ◌∙◌, ap, ap₂}
 use mathlib.Core.Bool.{Bool, true, false, ◌&&◌, true≢false}
 use mathlib.Core.List.{List}
 use Prim.Native.Nat.{ℕ, zero, suc, ◌%◌, ◌≤◌, ◌<◌}
@@ -27,7 +27,7 @@ use Rattle.polygon.proofs.Laws.Edges.{next_below}
 use Rattle.polygon.proofs.Laws.Reversed.{reversed_count, reversed_mirrored}
 use Rattle.polygon.proofs.Laws.Checks.{OffCircles}
 use Rattle.redraw.specs.Redraw.{started_at, Lengthened}
-use Rattle.redraw.proofs.Directions.{EdgeTest, joined_test, crosses_test, joins_test, on_circle, circle_test}
+use Rattle.redraw.proofs.Directions.{EdgeTest, crosses_test, joins_test, on_circle, circle_test}
 pub use Rattle.polygon.proofs.Laws.Directions.{class_same}
 use Rattle.redraw.proofs.Directions.{off→none, none→off, joined_on}
 use Rattle.redraw.proofs.Rings.{edge_count, one, count_edges, started_sum}
