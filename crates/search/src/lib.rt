@@ -2,6 +2,7 @@
 // (P3), and the walk over the edges, which hands back a tally. Each function is proved equal to its definition in
 // specs/.
 #![tactic(auto)]
+
 pub mod arc;
 pub mod border;
 pub mod boxes;

@@ -11,7 +11,6 @@ use lib.ListN.{length, get_or, set, length-set}
 use lib.Seq.{sets, length-sets, get_or-set_same, get_or-set_other}
 use Rattle.sphere.specs.declared.point.Point.{Point}
 use Rattle.polygon.specs.Vertices.{vertices_count, vertex_at}
-use Rattle.polygon.specs.Accepted.{Listed}
 use Rattle.search.specs.declared.boxes.Bounds.{Bounds}
 use Rattle.search.specs.Boxes.{run_count, box_of, box_at, point_stored, box_stored, boxes_stored, Boxed}
 
