@@ -2,5 +2,6 @@
 // What they tell: which edges a query does not notice, and which way others are crossed. Each function is proved equal
 // to its definition in specs/.
 #![tactic(auto)]
+
 pub mod azimuth;
 pub mod sectors;

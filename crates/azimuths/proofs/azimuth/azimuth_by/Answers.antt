@@ -4,7 +4,6 @@ use mathlib.Core.Bool.{Bool, true, false, not, cond, beq}
 use Prim.Native.Nat.{ℕ, ◌+◌, ◌*◌, ◌≤◌}
 use native.Mathlib.Nat.{div-le_of_le-mul}
 use native.Mathlib.Omega.{arith}
-use borrow.Author.Rules.{rules}
 use lib.IntN.{ℤ, pos, nat_abs}
 use lib.Signed.{lt_z}
 use mir.Syntax.{w64}
@@ -14,8 +13,14 @@ use Rattle.integers.specs.Sign.{sign_of, is_negative}
 use Rattle.integers.proofs.Compare.{negative_test}
 use Rattle.integers.proofs.Size.{nat_abs_zero}
 use Rattle.azimuths.specs.Azimuth.{quarter_of, part_of, across_of, azimuth_by}
-use Rattle.azimuths.proofs.azimuth.azimuth_by.Statement.{statement}
+use Rattle.azimuths.proofs.azimuth.azimuth_by.Goals as goal
+use Rattle.azimuths.proofs.azimuth.azimuth_by.Goals.{After-size-b, After-quarter}
+use Rattle.azimuths.proofs.azimuth.azimuth_by.Lts as lts
+use Rattle.azimuths.proofs.azimuth.azimuth_by.Reads as reads
 use Rattle.azimuths.proofs.azimuth.azimuth_by.Tie as tie
+
+abbrev Start : Type 0
+Start = lts.Start tie.the-claims reads.Pre reads.Post
 
 -- No direction has azimuth 0.
 nowhere : (u v : ℤ) → nat_abs u + nat_abs v ≡ 0 → 0 ≡ azimuth_by u v
@@ -43,8 +48,8 @@ across_same : {w w' s s' : Bool} {a a' b b' : ℕ} → w ≡ w' → s ≡ s' →
     across_of w s a b ≡ across_of w' s' a' b'
 across_same p q e f = rw (p, q, e, f)
 
-module _ (c : tie.After-size2) where
-  abbrev start : tie.Start
+module _ (c : After-size-b) where
+  abbrev start : Start
   start = c.before.before
 
   abbrev u : ℤ
@@ -53,11 +58,11 @@ module _ (c : tie.After-size2) where
   abbrev v : ℤ
   v = start.args.v
 
-  first_size : c.before.size.result ≡ nat_abs u
-  first_size = c.before.size.ensures ∙ ap nat_abs (to_z-of_z w64 u start.fits.u)
+  first_size : c.size-a.result ≡ nat_abs u
+  first_size = c.size-a.ensures ∙ ap nat_abs (to_z-of_z w64 u start.ranges.u)
 
-  second_size_lem : c.size2.result ≡ nat_abs v
-  second_size_lem = c.size2.ensures ∙ ap nat_abs (to_z-of_z w64 v start.fits.v)
+  second_size_lem : c.size-b.result ≡ nat_abs v
+  second_size_lem = c.size-b.ensures ∙ ap nat_abs (to_z-of_z w64 v start.ranges.v)
 
   -- the two tests, and their meaning
   abbrev west : Bool
@@ -67,86 +72,58 @@ module _ (c : tie.After-size2) where
   south = lt_z (to_z w64 (of_z w64 v)) (pos 0)
 
   west_sign : west ≡ is_negative (sign_of u)
-  west_sign = negative_test w64 u start.fits.u
+  west_sign = negative_test w64 u start.ranges.u
 
   south_sign : south ≡ is_negative (sign_of v)
-  south_sign = negative_test w64 v start.fits.v
+  south_sign = negative_test w64 v start.ranges.v
 
-size-requires : tie.Need-size-requires
-size-requires c κs = search rules
+pub overflow_add-d : goal.overflow_add-d
+overflow_add-d c = omega (arith, first_size c, second_size_lem c, (start c).requires.0.within, (start c).requires.1.within)
 
-size-requires-2 : tie.Need-size-requires-2
-size-requires-2 c κs = search rules
+pub returns-then-d-eq0 : goal.returns-then-d-eq0
+returns-then-d-eq0 c =
+    nowhere (u c.before) (v c.before) (omega (arith, first_size c.before, second_size_lem c.before, c.if-d-eq0.true))
 
-add-d : tie.Need-overflow-add-d
-add-d c = omega (arith, first_size c, second_size_lem c, (start c).requires.0.within, (start c).requires.1.within)
-
-returns : tie.Need-returns
-returns c =
-    let s = c.before in
-    nowhere (u s) (v s) (omega (arith, first_size s, second_size_lem s, c.if1.true))
-
-choose-requires : tie.Need-choose-requires
-choose-requires c κs = search rules
-
-quarter-requires : tie.Need-quarter-requires
-quarter-requires c κs = search rules
-
-module _ (c : tie.After-quarter) where
-  abbrev sizes : tie.After-size2
+module _ (c : After-quarter) where
+  abbrev sizes : After-size-b
   sizes = c.before.before.before
 
   abbrev a : ℕ
-  a = sizes.before.size.result
+  a = sizes.size-a.result
 
   abbrev b : ℕ
-  b = sizes.size2.result
+  b = sizes.size-b.result
 
-  told : c.before.choose.result ≡ cond (not (beq (west sizes) (south sizes))) a b
-  told = c.before.choose.ensures
+  told : c.choose-across.result ≡ cond (not (beq (west sizes) (south sizes))) a b
+  told = c.choose-across.ensures
 
-  least : c.before.choose.result ≤ a + b
+  least : c.choose-across.result ≤ a + b
   least = omega (arith, told, chosen_most (not (beq (west sizes) (south sizes))) a b)
 
-  across : c.before.choose.result
+  across : c.choose-across.result
       ≡ across_of (is_negative (sign_of (u sizes))) (is_negative (sign_of (v sizes))) (nat_abs (u sizes)) (nat_abs (v sizes))
   across = told ∙ chosen (west sizes) (south sizes) a b
       ∙ across_same (west_sign sizes) (south_sign sizes) (first_size sizes) (second_size_lem sizes)
 
-part-requires : tie.Need-part-requires
-part-requires c κs =
+pub part-requires : goal.part-requires
+part-requires c =
     let s = sizes c in
     let e = first_size s in
     let f = second_size_lem s in
-    let small : a c + b c ≤ 27021597764222976 = omega (arith, (start s).pre.0.within, (start s).pre.1.within) in
-    (omega (arith, c.before.before.if1.false), least c, small)
+    let small : a c + b c ≤ 27021597764222976 = omega (arith, (start s).requires.0.within, (start s).requires.1.within) in
+    (omega (arith, c.if-d-eq0.false), least c, small)
 
-add-result : tie.Need-overflow-add-result
-add-result c =
-    let t = c.before in
-    let s = sizes t in
-    let quarter = quarter_most (west s) (south s) in
-    let n = t.before.choose.result * 16384 in
-    let part = div-le_of_le-mul (a t + b t) {m = n} {n = 16384} (omega (arith, least t)) in
-    omega (arith, t.quarter.ensures, c.part.ensures)
-
-returns-2 : tie.Need-returns-2
-unfolding azimuth_by
-returns-2 c =
+pub overflow_add-result : goal.overflow_add-result
+overflow_add-result c =
     let s = sizes c.before in
-    ap₂ ◌+◌ (c.before.quarter.ensures ∙ ap₂ quarter_of (west_sign s) (south_sign s))
-    (c.part.ensures ∙ ap₂ part_of (across c.before) (ap₂ ◌+◌ (first_size s) (second_size_lem s)))
+    let quarter = quarter_most (west s) (south s) in
+    let n = c.choose-across.result * 16384 in
+    let part = div-le_of_le-mul (a c.before + b c.before) {m = n} {n = 16384} (omega (arith, least c.before)) in
+    omega (arith, c.quarter.ensures, c.part.ensures)
 
-pub azimuth_by_spec : {M : Type 1} → statement M
-azimuth_by_spec =
-    tie.close
-    (tie.spec
-    size-requires
-    size-requires-2
-    add-d
-    returns
-    choose-requires
-    quarter-requires
-    part-requires
-    add-result
-    returns-2)
+pub returns : goal.returns
+unfolding azimuth_by
+returns c =
+    let s = sizes c.before in
+    ap₂ ◌+◌ (c.quarter.ensures ∙ ap₂ quarter_of (west_sign s) (south_sign s))
+    (c.part.ensures ∙ ap₂ part_of (across c.before) (ap₂ ◌+◌ (first_size s) (second_size_lem s)))

@@ -3,7 +3,6 @@ use mathlib.Core.Path.{◌≡◌, refl}
 use mathlib.Core.Bool.{true, false, true≢false}
 use Prim.Native.Nat.{ℕ, ◌≤◌}
 use native.Mathlib.Omega.{arith}
-use borrow.Author.Rules.{rules}
 use borrow.Author.Tests.{ltb-true}
 use lib.Dec.{T}
 use lib.IntN.{ℤ, pos, negsuc, nat_abs, ◌-ℤ◌}
@@ -12,8 +11,8 @@ use mir.Syntax.{w64}
 use mir.Val.{Fits, SFits}
 use mir.ValLaws.{to_z-of_z}
 use Rattle.azimuths.specs.Azimuth.{seen}
-use Rattle.azimuths.proofs.azimuth.size.Statement.{statement}
-use Rattle.azimuths.proofs.azimuth.size.Tie as tie
+use Rattle.azimuths.proofs.azimuth.size.Goals as goal
+use Rattle.azimuths.proofs.azimuth.size.Goals.{Then-k-lt0}
 
 -- What the cast of a number asks, and its size.
 record Cast (z : ℤ) (n : ℕ) : Type 0 where
@@ -40,34 +39,28 @@ other (pos n) h e = record {
 }
 other (negsuc n) h e = absurd (true≢false e)
 
-module _ (c : tie.Then1) where
+module _ (c : Then-k-lt0) where
   abbrev k : ℤ
-  k = c.before.args.k
+  k = c.args.k
 
   kept : mir.Val.to_z w64 (mir.Val.of_z w64 k) ≡ k
-  kept = to_z-of_z w64 k c.before.ranges.k
+  kept = to_z-of_z w64 k c.ranges.k
 
   below : Cast (pos 0 -ℤ k) (nat_abs k)
-  below = negative k c.before.requires.within (rw kept at c.if1.true)
+  below = negative k c.requires.within (rw kept at c.if-k-lt0.true)
 
-sub-result : tie.Need-overflow-sub-result
-sub-result c = rw (kept c) (below c).whole
+pub overflow_sub-result : goal.overflow_sub-result
+overflow_sub-result c = rw (kept c) (below c).whole
 
-cast-result : tie.Need-overflow-cast-result
-cast-result c = rw (kept c, to_z-of_z w64 (pos 0 -ℤ k c) (below c).whole) ((below c).sign, (below c).ranges)
+pub overflow_cast-result : goal.overflow_cast-result
+overflow_cast-result c = rw (kept c, to_z-of_z w64 (pos 0 -ℤ k c) (below c).whole) ((below c).sign, (below c).fits)
 
-returns : tie.Need-returns
-returns c = rw (kept c, to_z-of_z w64 (pos 0 -ℤ k c) (below c).whole) (below c).same
+pub returns-then-k-lt0 : goal.returns-then-k-lt0
+returns-then-k-lt0 c = rw (kept c, to_z-of_z w64 (pos 0 -ℤ k c) (below c).whole) (below c).same
 
-cast-result-2 : tie.Need-overflow-cast-result-2
-cast-result-2 c =
-    let n = c.before.args.k in
-    let same = to_z-of_z w64 n c.before.ranges.k in
-    let above = other n c.before.requires.within (rw same at c.if1.false) in
+pub overflow_cast-result-2 : goal.overflow_cast-result-2
+overflow_cast-result-2 c =
+    let n = c.args.k in
+    let same = to_z-of_z w64 n c.ranges.k in
+    let above = other n c.requires.within (rw same at c.if-k-lt0.false) in
     rw same (above.sign, above.fits)
-
-returns-2 : tie.Need-returns-2
-returns-2 c = search rules
-
-pub size_spec : {M : Type 1} → statement M
-size_spec = tie.close (tie.spec sub-result cast-result returns cast-result-2 returns-2)
