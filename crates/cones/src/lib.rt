@@ -3,6 +3,7 @@
 // the boxes; so which cones there are, and which is tried, are hints, and any choice is right. What is said of a query is
 // what a search by the boxes says.
 #![tactic(auto)]
+
 mod buckets;
 pub mod build;
 mod grow;
