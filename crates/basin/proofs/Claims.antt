@@ -2,7 +2,7 @@
 use mathlib.Core.Path.{◌≡◌, refl, sym, ◌∙◌, ap}
 use mathlib.Core.Bool.{false, true≢false}
 use mathlib.Core.List.{List}
-use Prim.Native.Nat.{ℕ, ◌<◌}
+use Prim.Native.Nat.{ℕ}
 use native.Mathlib.Omega.{arith}
 use lib.IntN.{ℤ}
 use Rattle.sphere.specs.Point.{limit_of, grid_numbered}
@@ -11,7 +11,7 @@ use Rattle.polygon.specs.Vertices.{vertices_count}
 use Rattle.polygon.specs.Checks.{polygon_check}
 use Rattle.basin.specs.declared.pairs.FirstPair.{FirstPair}
 use Rattle.basin.specs.declared.pairs.FirstPair.TheVariants.{Apart, Pair}
-use Rattle.basin.specs.declared.profile.Basin.TheVariants.{Simple, Sharing, Refused}
+use Rattle.basin.specs.declared.profile.Basin.TheVariants.{Simple, Sharing}
 use Rattle.basin.specs.Pairs.{is_offending, first_pair_of}
 use Rattle.basin.specs.Basin.{basin_check, basin_after, basin_of}
 use Rattle.basin.specs.Claims.{Offends, Told, BasinTold}

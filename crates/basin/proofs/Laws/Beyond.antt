@@ -1,9 +1,9 @@
 -- The test decides whether neighbours share more than their common vertex. Proved: level_self, beyond_decided.
 use mathlib.Core.Path.{◌≡◌, sym, ◌∙◌, subst}
 use mathlib.Core.List.{[], ◌∷◌}
-use mathlib.Core.Bool.{true, false, ◌||◌, true≢false}
+use mathlib.Core.Bool.{true, false, true≢false}
 use lib.Dec.{T}
-use lib.IntN.{pos, ◌+ℤ◌, ◌*ℤ◌, neg_ℤ}
+use lib.IntN.{pos, ◌*ℤ◌}
 use lib.Signed.{◌<ℤ◌}
 use Rattle.integers.proofs.Polynomial.{con, var, neg}
 use Rattle.integers.proofs.Identity.{◌:+◌, ◌:*◌, ◌:=◌}

@@ -1,13 +1,13 @@
 -- From the test to a shared point: an end of an edge, or where two edges cross. Proved, in order: normal_off,
 -- some_start, some_end, start_on, end_on (of an edge whose ends are not parallel); met_shared.
-use mathlib.Core.Path.{◌≡◌, sym, ◌∙◌, ap, subst}
+use mathlib.Core.Path.{◌≡◌, sym, ◌∙◌, ap}
 use mathlib.Core.List.{[], ◌∷◌}
-use mathlib.Core.Bool.{Bool, true, false, ◌&&◌, true≢false}
+use mathlib.Core.Bool.{Bool, false, ◌&&◌, true≢false}
 use lib.Dec.{T}
 use lib.IntN.{ℤ, pos, neg_ℤ, ◌+ℤ◌, ◌-ℤ◌, ◌*ℤ◌, +ℤ_comm}
 use lib.Signed.{◌<ℤ◌, ◌≤ℤ◌}
 use Rattle.integers.specs.Sign.{sign_of, is_negative, is_positive}
-use Rattle.integers.proofs.Polynomial.{Expr, con, var, neg}
+use Rattle.integers.proofs.Polynomial.{con, var, neg}
 use Rattle.integers.proofs.Identity.{◌:+◌, ◌:-◌, ◌:*◌, ◌:=◌, ints}
 use Rattle.integers.proofs.Sign.{is, equal, ne, gt, ge, lt, allows_is, conclude}
 use Rattle.integers.proofs.Table.{and_l, and_r}
