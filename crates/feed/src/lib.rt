@@ -2,6 +2,7 @@
 // 16), store_result, mode_for, judge_one, judge_all, judge_by_index, judge_each, judge_feed. Nothing of the polygon is
 // copied for a query, and its boxes are built once. A second point that is all zero is none (document 02, P4).
 #![tactic(auto)]
+
 pub mod indexed;
 
 ghost use Rattle.std.specs.Prelude.{◌≡◌, ◌+◌, ◌*◌, ◌≤◌, ◌<◌, ltb, length};

@@ -4,7 +4,6 @@ use mathlib.Core.Bool.{Bool, true, false, ◌||◌, true≢false}
 use mathlib.Core.Logic.{⊎_elim}
 use Prim.Native.Nat.{ℕ, ◌<◌}
 use native.Mathlib.Nat.{eq-zero-or-pos}
-use borrow.Author.Rules.{rules}
 use borrow.Author.Tests.{eqb-false}
 use lib.Dec.{eqb}
 use Rattle.sphere.specs.declared.point.Point.{Point}
@@ -19,8 +18,16 @@ use Rattle.polygon.proofs.Laws.Checks.{accept_passed}
 use Rattle.polygon.proofs.Laws.Pair.{optional_first, judge_near}
 use Rattle.judging.specs.Judge.{verdict_on}
 use Rattle.judging.proofs.Laws.Judge.{verdict_tally}
-use Rattle.feed.proofs.indexed.judge_indexed.Statement.{statement}
+use Rattle.feed.proofs.indexed.judge_indexed.Goals as goal
+use Rattle.feed.proofs.indexed.judge_indexed.Lts as lts
+use Rattle.feed.proofs.indexed.judge_indexed.Reads as reads
 use Rattle.feed.proofs.indexed.judge_indexed.Tie as tie
+
+abbrev Start : Type 0
+Start = lts.Start tie.the-claims reads.Pre reads.Post tie.handed_clauses
+
+abbrev Else-is_left_out : Type 0
+Else-is_left_out = lts.Else1 tie.the-claims reads.Pre reads.Post tie.handed_clauses
 
 -- Lines 17 and 18 pass.
 on_grid_lem : (limit : ℕ) (P : Point) → is_off_grid limit P ≡ false → query_check limit P ≡ Passed
@@ -39,22 +46,19 @@ not_zero : (n : ℕ) → eqb n 0 ≡ false → 0 < n
 not_zero n e = ⊎_elim (λ z. absurd (eqb-false n 0 e z)) (λ h. h) (eq-zero-or-pos n)
 
 -- The known point is accepted.
-accepted : (s : tie.Start) → accept_check (limit_of s.args.grid) s.args.vertices.now s.args.known ≡ Passed
+accepted : (s : Start) → accept_check (limit_of s.args.grid) s.args.vertices.now s.args.known ≡ Passed
 accepted s =
-    optional_first (limit_of s.args.grid) s.args.vertices.now s.args.known s.args.second s.requires.0.0
+    optional_first (limit_of s.args.grid) s.args.vertices.now s.args.known s.args.second s.requires.second_value.0
 
-is-left-out-requires : tie.Need-is-left-out-requires
-is-left-out-requires c κs = (accept_passed (accepted c.before.before.before.before.before)).known
+pub is_left_out-requires : goal.is_left_out-requires
+is_left_out-requires c = (accept_passed (accepted c.before.before.before.before.before.before)).known
 
-judge-boxed-requires : tie.Need-judge-boxed-requires
-judge-boxed-requires c κs = search rules
-
-returns : tie.Need-returns
-returns c = c.judge-boxed.ensures.0
+pub returns-then-is_left_out : goal.returns-then-is_left_out
+returns-then-is_left_out c = c.judge_boxed.ensures.0
 
 -- The query is not left out.
-module _ (c : tie.Else1) where
-  abbrev start : tie.Start
+module _ (c : Else-is_left_out) where
+  abbrev start : Start
   start = c.before.before.before.before.before.before.before
 
   abbrev off_grid : Bool
@@ -65,7 +69,7 @@ module _ (c : tie.Else1) where
 
   some : (eqb start.args.index.nodes 0 ≡ false) × ((off_grid || far) ≡ false)
   some = neither (eqb start.args.index.nodes 0) (off_grid || far)
-      (sym c.before.is-left-out.ensures ∙ c.if1.false)
+      (sym c.is_left_out.ensures ∙ c.if-is_left_out.false)
 
   gridded : off_grid ≡ false
   gridded = (neither off_grid far some.1).0
@@ -76,42 +80,24 @@ module _ (c : tie.Else1) where
   within : Within (limit_of start.args.grid) start.args.query
   within = off-grid→within (limit_of start.args.grid) start.args.query gridded
 
-tally-edges-requires : tie.Need-tally-edges-requires
-tally-edges-requires c κs =
-    let e = c.before in
-    let s = start e in
-    ((accepted s, within e, s.pre.0.1), s.pre.1.built (not_zero _ (some e).0))
+pub tally_edges-requires : goal.tally_edges-requires
+tally_edges-requires c =
+    let s = start c.before.before in
+    record {
+      known_value = (accepted s, within c.before.before, s.requires.second_value.1);
+      built = s.requires.index_on.built (not_zero _ (some c.before.before).0);
+    }
 
-verdict-on-requires : tie.Need-verdict-on-requires
-verdict-on-requires c κs = search rules
-
-same_length : tie.Need-same-length
-same_length c = search rules
-
-returns-2 : tie.Need-returns-2
+pub returns : goal.returns
 unfolding answer_of judge_check
-returns-2 c =
-    let t = c.before.before.before in
-    let q = t.before.before in
-    let a = (start q).args in
+returns c =
+    let a = (start c.before.before.before.before.before.before).args in
     let limit = limit_of a.grid in
     let vs = a.vertices.now in
     rw (
-      judge_near a.known a.second a.query (apart q),
-      accepted (start q),
-      on_grid_lem limit a.query (gridded q),
-      near a.known a.query (apart q),
+      judge_near a.known a.second a.query (apart c.before.before.before.before.before.before),
+      accepted (start c.before.before.before.before.before.before),
+      on_grid_lem limit a.query (gridded c.before.before.before.before.before.before),
+      near a.known a.query (apart c.before.before.before.before.before.before),
     )
-    (c.verdict-on.ensures ∙ ap verdict_on t.tally-edges.ensures ∙ verdict_tally vs a.known a.query)
-
-pub judge_indexed_spec : {M : Type 1} → statement M
-judge_indexed_spec =
-    tie.close
-    (tie.spec
-    is-left-out-requires
-    judge-boxed-requires
-    returns
-    tally-edges-requires
-    verdict-on-requires
-    same_length
-    returns-2)
+    (c.verdict_on.ensures ∙ ap verdict_on c.tally_edges.ensures ∙ verdict_tally vs a.known a.query)
