@@ -5,6 +5,7 @@
 // A later field is looked at only where those before it have passed. The lengths that say where the fields begin and
 // end are read once and handed on: read again they might be others, where somebody writes to the bytes meanwhile.
 #![tactic(auto)]
+
 ghost use Rattle.std.specs.Prelude.{◌≡◌, ◌+◌, ◌≤◌, ◌<◌, eqb, length};
 ghost use Rattle.big_endian.specs.Bytes.{byte_at, short_at};
 ghost use Rattle.answer.specs.declared.Check.TheVariants.{Passed};

@@ -12,7 +12,6 @@ use lib.ListN.{length}
 use Rattle.big_endian.specs.Bytes.{short_at}
 use Rattle.answer.specs.declared.Check.{Check}
 use Rattle.answer.specs.declared.Check.TheVariants.{Passed, Failed}
-use Rattle.fields.specs.declared.field.Body.{Body}
 use Rattle.fields.specs.declared.field.Body.TheVariants.{Size, Refused}
 use Rattle.fields.specs.declared.Parts.{Parts}
 use Rattle.fields.specs.Fields.{field_end, vertices_start, second_start, sheet_end, five_fields, second_field}
