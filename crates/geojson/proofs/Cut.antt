@@ -1,9 +1,9 @@
 -- A list of over 4,096 vertices is refused by 10, however long it is: the writer's answer for the first 4,097 of them
 -- is its answer for all. Proved, in order: write_long, cut_answer, cut_buffer.
-use mathlib.Core.Path.{◌≡◌, refl, sym, ap, ◌∙◌}
+use mathlib.Core.Path.{◌≡◌, refl, ◌∙◌}
 use mathlib.Core.Bool.{Bool, true, false, not, ◌&&◌}
 use mathlib.Core.List.{List}
-use Prim.Native.Nat.{ℕ, ◌+◌, ◌*◌, ◌/◌, ◌%◌, ◌≤◌, ◌<◌, min}
+use Prim.Native.Nat.{ℕ, ◌*◌, ◌/◌, ◌%◌, ◌≤◌, ◌<◌, min}
 use native.Mathlib.Omega.{arith}
 use borrow.Author.Tests.{lt-leb, leb-true, leb-false}
 use lib.Dec.{eqb, leb, ltb}
@@ -15,7 +15,7 @@ use Rattle.sphere.specs.declared.point.Grid.{Grid}
 use Rattle.answer.specs.declared.Check.{Check}
 use Rattle.answer.specs.declared.Check.TheVariants.{Passed, Failed}
 use Rattle.answer.specs.Chain.{◌then◌, fails_if, fails_here}
-use Rattle.polygon.specs.Checks.{list_check, polygon_check, accept_check}
+use Rattle.polygon.specs.Checks.{list_check}
 use Rattle.polygon.specs.Grids.{grid_check}
 use Rattle.polygon.specs.Pair.{no_second}
 use Rattle.polygon.specs.GridClaims.{on}

@@ -3,12 +3,12 @@
 -- at once); passed_count; scan_dead, scan_whole, listed; start_reader, start_filled.
 use mathlib.Core.Path.{◌≡◌, refl, sym, ap, ◌∙◌}
 use mathlib.Core.Bool.{Bool, true, false, not, cond, ◌&&◌}
-use mathlib.Core.List.{List, [], ◌∷◌, ◌++◌, append_assoc}
+use mathlib.Core.List.{List, [], ◌∷◌, ◌++◌}
 use Prim.Native.Nat.{ℕ, zero, suc, ◌+◌, ◌-◌, ◌*◌, ◌≤◌, ◌<◌, min}
 use native.Mathlib.Omega.{arith}
 use borrow.Author.Tests.{ltb-true, ltb-false, leb-true}
 use lib.Dec.{ltb, leb}
-use lib.IntN.{ℤ, pos}
+use lib.IntN.{ℤ}
 use lib.ListN.{length, get_or, take, drop, length-append}
 use lib.Seq.{sets, sets-eq, length-sets, length-take-le, take_all, take-append-le, take_at, take-take, take-nil}
 use Rattle.sphere.specs.declared.point.Grid.{Grid}
@@ -17,7 +17,6 @@ use Rattle.answer.specs.declared.Found.TheVariants.{Nothing, At}
 use Rattle.answer.specs.declared.Check.{Check}
 use Rattle.answer.specs.declared.Check.TheVariants.{Passed, Failed}
 use Rattle.answer.specs.Chain.{◌then◌, fails_if, fails_at}
-use Rattle.positions.specs.declared.grammar.Reading.{Reading}
 use Rattle.positions.specs.declared.grammar.Reading.TheVariants.{Whole, Dead}
 use Rattle.positions.specs.Text.{start, read}
 use Rattle.angles.specs.declared.point.Position.{Position}
@@ -36,7 +35,7 @@ use Rattle.geojson.specs.declared.scan.Scanned.TheVariants.{Kept, Refused}
 use Rattle.angles.specs.Point.{numbers_on}
 use Rattle.geojson.specs.Scan.{list_on, text_check, import_check, vertices_on, put_of, step_of, out_of, finish_of}
 use Rattle.geojson.specs.Scan.{scanned_of, Listed}
-use Rattle.geojson.specs.Scan.{scanned_after, unread, start_of}
+use Rattle.geojson.specs.Scan.{scanned_after, start_of}
 
 -- ---- what the code keeps after i bytes
 

@@ -1,6 +1,6 @@
 -- Document 02, P7: 30 to 33 of a text, and its list of grid numbers on either grid. Defined, in order: list_on, numbers_of;
 -- text_check (30), import_check (30 to 33), vertices_on, vertices_of; put_of, start_of, step_of, out_of, finish_of, scanned_of, Listed, Past (the code's).
-use Rattle.std.specs.Prelude.{◌≡◌, Bool, cond, List, [], ◌∷◌, ℕ, ◌+◌, ◌-◌, ◌*◌, ◌<◌, min, ltb, ℤ, length, take}
+use Rattle.std.specs.Prelude.{◌≡◌, cond, List, [], ◌∷◌, ℕ, ◌+◌, ◌-◌, ◌*◌, ◌<◌, min, ltb, ℤ, length, take}
 use Rattle.std.proofs.lemmas.List.Edits.{sets}
 use Rattle.sphere.specs.declared.point.Grid.{Grid}
 use Rattle.sphere.specs.declared.point.Grid.TheVariants.{Coarse}
