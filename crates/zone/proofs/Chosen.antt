@@ -1,6 +1,6 @@
 -- A sheet with the chosen candidate behind it reads back with that point: it is what writing with that second point
 -- gives. Proved, in order: chosen_second (a candidate that is chosen passes), second_behind, chosen_reads_back.
-use mathlib.Core.Path.{◌≡◌, refl, sym, ◌∙◌, ap, subst}
+use mathlib.Core.Path.{◌≡◌, sym, ◌∙◌, ap}
 use mathlib.Core.Bool.{Bool, true, false, not}
 use mathlib.Core.List.{List, [], ◌∷◌, ◌++◌, append-nil, append_assoc}
 use Prim.Native.Nat.{ℕ}

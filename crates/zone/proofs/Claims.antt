@@ -39,7 +39,7 @@ use Rattle.feed.proofs.Laws.Ends.{size_passed}
 use Rattle.feed.proofs.Laws.ResultBuffer.{buffer_results, buffer_same}
 use Rattle.zone.proofs.Laws.Feeds.{feed_ends}
 use Rattle.sheet.proofs.Laws.Numbers.{sheet_numbered}
-use Rattle.sheet.proofs.Claims.{read_done, Accepted, accepted}
+use Rattle.sheet.proofs.Claims.{read_done, accepted}
 
 -- ---- judging by a sheet is judging by its parts
 pub sheet_answers_as_list : SheetAnswersAsList

@@ -8,16 +8,15 @@ use lib.IntN.{ℤ}
 use lib.ListN.{length, take}
 use Rattle.sphere.specs.Point.{limit_of}
 use Rattle.answer.specs.declared.Check.TheVariants.{Passed}
-use Rattle.polygon.specs.Pair.{optional_check}
 use Rattle.search.specs.Boxes.{Boxed}
 use Rattle.judging.specs.Accept.{boxed_after}
 use Rattle.judging.proofs.Laws.Accept.{after_boxed}
 use Rattle.fields.specs.Fields.{grid_of, fields_check}
 use Rattle.fields.proofs.Laws.Fields.{passed_spans}
 use Rattle.sheet.specs.declared.open.Opened.{Opened}
-use Rattle.sheet.specs.Sheet.{known_of, vertices_of, plain_check, sheet_check}
+use Rattle.sheet.specs.Sheet.{known_of, vertices_of, plain_check}
 use Rattle.sheet.specs.Open.{opened_after, BoxesFor, decoded_of}
-use Rattle.sheet.proofs.Laws.Reads.{fields_five, plain_passed, opened_passed, opened_row, opened_room}
+use Rattle.sheet.proofs.Laws.Reads.{fields_five, plain_passed, opened_row, opened_room}
 use Rattle.zone.specs.Judge.{boxed_of}
 
 -- Of the struct o and the scratch space left behind.
