@@ -1,10 +1,10 @@
 -- Bounds along an axis. Proved, in order: plane_dot; below_size; beside_lower (one plane, L <= 0), forward_lower (four
 -- planes, L > 0), zero_lower (the polygon is ahead of the axis's own plane), least_lower (no bound); plane-within.
-use Rattle.std.proofs.Common.{◌≡◌, ℕ, zero, suc, ◌≤◌, true, ◌⊎◌, List, [], ◌∷◌, ℤ, pos, negsuc, ◌-ℤ◌, ◌*ℤ◌, neg_ℤ, nat_abs, ◌≤ℤ◌, ◌<ℤ◌, sym, refl, ap, ◌∙◌, subst, inl, inr, ⊎_elim, le→leb, leb→le}
+use Rattle.std.proofs.Common.{◌≡◌, ℕ, ◌≤◌, true, ◌⊎◌, List, [], ◌∷◌, ℤ, pos, negsuc, ◌-ℤ◌, ◌*ℤ◌, neg_ℤ, nat_abs, ◌≤ℤ◌, ◌<ℤ◌, sym, refl, ap, subst, inl, inr, ⊎_elim, le→leb, leb→le}
 use lib.Signed.{le_z_yes, clash_ℤ}
 use Rattle.integers.specs.Sign.{Sign, negative, nought, positive, sign_of}
 use Rattle.integers.proofs.Size.{nat_abs-neg}
-use Rattle.integers.proofs.Order.{lt→diff, le→diff, diff→lt}
+use Rattle.integers.proofs.Order.{lt→diff, le→diff}
 use Rattle.integers.proofs.Polynomial.{con, neg, var}
 use Rattle.integers.proofs.Identity.{◌:+◌, ◌:-◌, ◌:*◌, ◌:=◌, ints}
 use Rattle.integers.proofs.Infer.{claim, ints_sign}
@@ -16,7 +16,7 @@ use Rattle.separation.specs.Separation.{Ahead, is_ahead}
 use Rattle.separation.specs.Planes.{Behind}
 use Rattle.separation.proofs.Laws.Screened.{test→ahead}
 use Rattle.separation.specs.Axes.{unit, greatest}
-use Rattle.separation.specs.Axes.{plane_of, Greatest, Frame, Lower, AllClear, AnyClear}
+use Rattle.separation.specs.Axes.{plane_of, Frame, Lower, AllClear, AnyClear}
 
 abbrev pub u : ℤ
 u = pos unit
