@@ -1,24 +1,20 @@
 -- Proof of the claim of the far side. Proved, in order: judged (what a verdict tells of the sheet and the query),
 -- far_alike.
-use mathlib.Core.Path.{◌≡◌, sym, ◌∙◌, ap, subst}
+use mathlib.Core.Path.{◌≡◌, sym, subst}
 use mathlib.Core.List.{List}
 use Prim.Native.Nat.{ℕ, ◌≤◌, ◌<◌}
 use native.Mathlib.Omega.{arith}
 use lib.IntN.{ℤ}
 use Rattle.sphere.specs.declared.point.Point.{Point}
 use Rattle.sphere.specs.Point.{limit_of}
-use Rattle.answer.specs.declared.Answer.{Answer}
-use Rattle.answer.specs.declared.Check.{Check}
-use Rattle.answer.specs.declared.Check.TheVariants.{Passed, Failed}
-use Rattle.answer.specs.Answer.{number_of, answer_after}
-use Rattle.polygon.specs.Checks.{query_check}
+use Rattle.answer.specs.declared.Check.TheVariants.{Passed}
+use Rattle.answer.specs.Answer.{number_of}
 use Rattle.polygon.specs.Vertices.{vertices_count, vertex_at}
-use Rattle.polygon.specs.Verdict.{answer_of}
-use Rattle.polygon.specs.Pair.{judge_from, optional_check, optional_answer_of}
+use Rattle.polygon.specs.Pair.{optional_check, optional_answer_of}
 use Rattle.polygon.proofs.Laws.Pair.{optional_first, optional_judged}
 use Rattle.polygon.proofs.Laws.Checks.{reference_accepted}
 use Rattle.redraw.proofs.Pair.{after_passed, query_on_grid, not_far}
-use Rattle.separation.specs.Separation.{Ahead, Separates, away_of}
+use Rattle.separation.specs.Separation.{Separates, away_of}
 use Rattle.separation.specs.Claims.{OneSide, Heard}
 use Rattle.separation.proofs.Behind.{reverse_behind}
 use Rattle.separation.proofs.Claims.{separated_alike}

@@ -18,8 +18,6 @@ use Rattle.answer.specs.declared.Answer.TheVariants.{Done, Inside, Outside, Boun
 use Rattle.answer.specs.declared.Check.TheVariants.{Passed, Failed}
 use Rattle.answer.specs.Answer.{number_of}
 use Rattle.answer.specs.Buffer.{buffer_after}
-use Rattle.polygon.specs.Verdict.{answer_of}
-use Rattle.polygon.specs.Pair.{judge_from}
 use Rattle.big_endian.specs.Bytes.{point_bytes, numbers_of}
 use Rattle.big_endian.proofs.Laws.Stores.{stored_on, ints_bytes-length}
 use Rattle.separation.specs.Separation.{away_of}

@@ -2,6 +2,7 @@
 // boundary. Here, in order: sides (the box of a polygon), measure (an accepted polygon, then a sheet), boxes (the box
 // in bytes).
 #![tactic(auto)]
+
 pub mod boxes;
 pub mod measure;
 mod sides;

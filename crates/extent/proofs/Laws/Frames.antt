@@ -1,6 +1,6 @@
 -- The three axes, each one way or the other. Proved, in order: more_left, more_right, more_one; sized, rotated (of
 -- Greatest); frame_x, frame_y, frame_z.
-use mathlib.Core.Path.{◌≡◌, refl, sym, ◌∙◌, ap, subst}
+use mathlib.Core.Path.{◌≡◌, refl, ◌∙◌, ap}
 use mathlib.Core.Logic.{◌⊎◌, inl, inr, ⊎_elim}
 use mathlib.Core.Bool.{Bool, true, false, cond}
 use Prim.Native.Nat.{ℕ, ◌*◌, ◌≤◌}

@@ -1,12 +1,12 @@
 -- What six bounds hold. Proved, in order: not_less; held, over; enclosed; whole_holds (the whole holds everything).
-use mathlib.Core.Path.{◌≡◌, refl, sym, ◌∙◌, ap, subst}
+use mathlib.Core.Path.{◌≡◌, sym, subst}
 use mathlib.Core.List.{List, [], ◌∷◌}
 use Prim.Native.Nat.{ℕ, ◌≤◌}
 use lib.IntN.{ℤ, pos, negsuc, neg_ℤ, nat_abs, ◌-ℤ◌, ◌*ℤ◌}
 use lib.Signed.{◌<ℤ◌, ◌≤ℤ◌}
-use Rattle.integers.proofs.Order.{lt→diff, diff→lt, diff→le, le→diff}
-use Rattle.integers.proofs.Polynomial.{con, neg, var}
-use Rattle.integers.proofs.Identity.{◌:+◌, ◌:-◌, ◌:*◌, ◌:=◌, ints}
+use Rattle.integers.proofs.Order.{diff→lt, diff→le, le→diff}
+use Rattle.integers.proofs.Polynomial.{neg, var}
+use Rattle.integers.proofs.Identity.{◌:+◌, ◌:-◌, ◌:*◌}
 use Rattle.integers.proofs.Infer.{claim, ints_sign}
 use Rattle.integers.proofs.Sign.{is, lt, gt, ge, else_absurd}
 use Rattle.sphere.specs.declared.point.Point.{Point}
@@ -14,9 +14,8 @@ use Rattle.sphere.specs.Orientation.{dot_of}
 use Rattle.separation.specs.Separation.{reverse}
 use Rattle.separation.specs.Planes.{Behind}
 use Rattle.separation.proofs.Behind.{reverse_within}
-use Rattle.extent.specs.declared.sides.Sides.{Sides}
 use Rattle.separation.specs.Axes.{unit, greatest}
-use Rattle.extent.specs.Sides.{axis, Between, InBox, whole_sides}
+use Rattle.extent.specs.Sides.{Between, InBox, whole_sides}
 use Rattle.separation.specs.Axes.{Lower}
 use Rattle.extent.specs.Sides.{Bounds, Encloses}
 use Rattle.separation.proofs.Laws.Lower.{u_positive, below_size, above_size}

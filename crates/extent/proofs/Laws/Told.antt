@@ -1,6 +1,6 @@
 -- What is told of a sheet. Proved, in order: gridded_of (the vertices of an accepted polygon are on the fine grid),
 -- behind_plane, failed_passed, refused_told, far_refused, far_none, far_found.
-use mathlib.Core.Path.{◌≡◌, refl, sym, ◌∙◌, ap}
+use mathlib.Core.Path.{◌≡◌, sym, ◌∙◌, ap}
 use mathlib.Core.Bool.{true, false, false≢true}
 use mathlib.Core.List.{List}
 use Prim.Native.Nat.{ℕ, ◌≤◌}
@@ -9,20 +9,15 @@ use lib.IntN.{ℤ}
 use Rattle.sphere.specs.declared.point.Grid.{Grid}
 use Rattle.sphere.specs.declared.point.Point.{Point}
 use Rattle.sphere.specs.Point.{fine, limit_of}
-use Rattle.answer.specs.declared.Answer.{Answer}
-use Rattle.answer.specs.declared.Check.{Check}
 use Rattle.answer.specs.declared.Check.TheVariants.{Passed, Failed}
 use Rattle.answer.specs.Answer.{number_of}
 use Rattle.polygon.specs.Vertices.{vertices_count}
 use Rattle.polygon.specs.Accepted.{Gridded}
-use Rattle.polygon.specs.Verdict.{answer_of}
-use Rattle.polygon.specs.Pair.{judge_from, optional_check}
+use Rattle.polygon.specs.Pair.{optional_check}
 use Rattle.polygon.proofs.Laws.Checks.{accept_passed, gridded_fine}
 use Rattle.polygon.proofs.Laws.Pair.{optional_first}
-use Rattle.separation.specs.Separation.{away_of}
 use Rattle.separation.specs.Planes.{Behind}
-use Rattle.fields.specs.Fields.{grid_of}
-use Rattle.sheet.specs.Sheet.{known_of, vertices_of, second_of, sheet_check}
+use Rattle.sheet.specs.Sheet.{sheet_check}
 use Rattle.zone.specs.Judge.{sheet_answer_of}
 use Rattle.extent.specs.declared.measure.Extent.{Extent}
 use Rattle.extent.specs.Extent.{Plane, far_of, FarNumber, Told}
