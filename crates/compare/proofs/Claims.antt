@@ -62,6 +62,7 @@ module _ (test : Field → Bool) where
 
   every : (fs : List Field) (f : Field) → In f fs → test f ≡ true → Told fs f
   unfolding differing
+  every [] f i e = elim i [ ]
   every (f ∷ fs) f' here e = record { at = 0; below = rw e (omega arith); stands = rw e }
   every (g ∷ fs) f (later i) e = go (test g) refl (every fs f i e)
     where

@@ -2,6 +2,7 @@
 // which way round the right ring meets the left one. Here, in order: Comparison, refused, compare_read, compare. Each
 // function is proved equal to its definition in specs/.
 #![tactic(auto)]
+
 ghost use Rattle.std.specs.Prelude.{◌≡◌};
 ghost use Rattle.answer.specs.declared.Check.TheVariants.{Passed};
 ghost use Rattle.sheet.specs.Sheet.{sheet_check, read_after};
