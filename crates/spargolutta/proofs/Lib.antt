@@ -1,4 +1,5 @@
 pub mod Handed
+pub mod Wrote
 pub mod Listed
 pub mod Read
 pub mod Claims

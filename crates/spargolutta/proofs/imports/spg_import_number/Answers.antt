@@ -1,0 +1,20 @@
+-- `imports::spg_import_number` meets its contract.
+use mathlib.Core.Path.{ap, ◌∙◌}
+use Rattle.spargolutta.proofs.Handed.{handed}
+use Rattle.sphere.specs.declared.point.Point.{Point}
+use lib.ListN.{length}
+use Rattle.answer.specs.Answer.{number_of}
+use Rattle.geojson.specs.Import.{import_of, imported_to}
+use Rattle.spargolutta.proofs.imports.spg_import_number.Goals as goal
+
+pub returns : goal.returns
+returns c =
+    let i = c.args in
+    let g = c.ranges in
+    let f = c.import.ensures in
+    let p = c.query.ensures ∙ handed _ _ _ g.x g.y g.z in record {
+      value = c.number.ensures
+          ∙ ap number_of (f.value ∙ ap (λ (q : Point). import_of i.text.now i.charset i.name.now q
+          (length i.sheet.now)) p);
+      sheet_after = f.buffer_after ∙ ap (λ (q : Point). imported_to i.zone i.text.now i.charset i.name.now q i.sheet.now) p;
+    }

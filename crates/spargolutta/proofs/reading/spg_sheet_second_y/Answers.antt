@@ -1,0 +1,12 @@
+-- `reading::spg_sheet_second_y` meets its contract.
+use mathlib.Core.Path.{ap, ◌∙◌}
+use mir.Syntax.{w32}
+use mir.ValLaws.{to_z-of_z}
+use Rattle.angles.proofs.Numbers.{numbers_of_lem}
+use Rattle.angles.specs.declared.point.GridNumbers.{GridNumbers}
+use Rattle.spargolutta.proofs.reading.spg_sheet_second_y.Goals as goal
+
+pub returns : goal.returns
+returns c =
+    let w = numbers_of_lem c.second-p.result c.struct_told-1.given in
+    to_z-of_z w32 _ w.at_y ∙ ap (λ (v : GridNumbers). v.y) c.second-p.ensures

@@ -1,0 +1,7 @@
+-- `spg_choose_place` meets its contract.
+use mathlib.Core.Path.{◌∙◌, ap}
+use Rattle.answer.specs.Answer.{place_of}
+use Rattle.spargolutta.proofs.spg_choose_place.Goals as goal
+
+pub returns : goal.returns
+returns c = c.place.ensures ∙ ap place_of c.choose.ensures

@@ -1,0 +1,11 @@
+-- `spg_judge_count` meets its contract.
+use mathlib.Core.Path.{◌∙◌, ap}
+use Rattle.answer.specs.Answer.{count_of}
+use Rattle.spargolutta.proofs.Handed.{handed_answer}
+use Rattle.spargolutta.proofs.spg_judge_count.Goals as goal
+
+pub returns : goal.returns
+returns c =
+    let f = c.ranges in
+    c.count.ensures
+    ∙ ap count_of (c.answer.ensures ∙ handed_answer c.args.sheet.now _ _ _ f.x f.y f.z)
