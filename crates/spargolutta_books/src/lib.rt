@@ -2,6 +2,7 @@
 // own, and an object of its own in the archive: what it shares with spg_feed_number is then compiled into each of the
 // two loops over the queries, where a function with two callers would be called for every query of either.
 #![tactic(auto)]
+
 ghost use Rattle.std.specs.Prelude.{◌≡◌, length};
 ghost use Rattle.answer.specs.Answer.{number_of, place_of, count_of};
 ghost use Rattle.book_feed.specs.Feed.{book_feed_of, book_results_after};
