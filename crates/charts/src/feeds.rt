@@ -25,7 +25,7 @@ fn results() -> [u8; 62] {
        \x00\x00\x00\x01\x00\x00\x00\x00\x00\x00\x00\x00\xee\xee"
 }
 
-fn judged() {
+fn judged(rt: &impl Print) {
     let known = coarse(inner());
     let mut buffer = [238u8; 62];
     let fed = judge_feed(
@@ -36,11 +36,11 @@ fn judged() {
         &queries(),
         &mut buffer,
     );
-    lines::print_kept(b"feed", fed, check::same(&buffer, &results()))
+    lines::print_kept(rt, b"feed", fed, buffer == results())
 }
 
 // (2^26, 1, 1), which is inside.
-fn judged_fine() {
+fn judged_fine(rt: &impl Print) {
     let query = *b"\x04\x00\x00\x00\x00\x00\x00\x01\x00\x00\x00\x01";
     let result = *b"\x00\x00\x00\x01\x00\x00\x00\x00\x00\x00\x00\x00\xee";
     let known = fine(inner());
@@ -53,34 +53,34 @@ fn judged_fine() {
         &query,
         &mut buffer,
     );
-    lines::print_kept(b"feed_fine", fed, check::same(&buffer, &result))
+    lines::print_kept(rt, b"feed_fine", fed, buffer == result)
 }
 
 // From (1, 1, z), the first n bytes of queries, with room for one result and a byte more. Nothing is written.
-fn refuse(list: Grid, known: Grid, queries: Grid, z: i64, n: usize)
+fn refuse(rt: &impl Print, list: Grid, known: Grid, queries: Grid, z: i64, n: usize)
     requires { n ≤ 24 }
 {
     let first = on(known, point(1, 1, z));
     let asked = [0u8; 24];
     let mut buffer = [238u8; 13];
     let fed = judge_feed(list, &octant(), first, queries, &asked[0..n], &mut buffer);
-    lines::print_kept(b"feed_refused", fed, check::same(&buffer, &[238; 13]))
+    lines::print_kept(rt, b"feed_refused", fed, buffer == [238; 13])
 }
 
 // 26 and 27 come before 28, which is given once and before 16: (1, 1, 0) is on a great circle. A feed of no queries is
 // refused too.
-fn refused() {
-    refuse(Grid::Coarse, Grid::Coarse, Grid::Fine, 0, 13);
-    refuse(Grid::Coarse, Grid::Coarse, Grid::Fine, 0, 24);
-    refuse(Grid::Coarse, Grid::Coarse, Grid::Fine, 0, 12);
-    refuse(Grid::Coarse, Grid::Fine, Grid::Coarse, 0, 12);
-    refuse(Grid::Fine, Grid::Coarse, Grid::Coarse, 0, 12);
-    refuse(Grid::Coarse, Grid::Coarse, Grid::Coarse, 0, 12);
-    refuse(Grid::Coarse, Grid::Coarse, Grid::Coarse, 0, 0);
+fn refused(rt: &impl Print) {
+    refuse(rt, Grid::Coarse, Grid::Coarse, Grid::Fine, 0, 13);
+    refuse(rt, Grid::Coarse, Grid::Coarse, Grid::Fine, 0, 24);
+    refuse(rt, Grid::Coarse, Grid::Coarse, Grid::Fine, 0, 12);
+    refuse(rt, Grid::Coarse, Grid::Fine, Grid::Coarse, 0, 12);
+    refuse(rt, Grid::Fine, Grid::Coarse, Grid::Coarse, 0, 12);
+    refuse(rt, Grid::Coarse, Grid::Coarse, Grid::Coarse, 0, 12);
+    refuse(rt, Grid::Coarse, Grid::Coarse, Grid::Coarse, 0, 0);
 }
 
-pub(crate) fn run() {
-    judged();
-    judged_fine();
-    refused();
+pub(crate) fn run(rt: &impl Print) {
+    judged(rt);
+    judged_fine(rt);
+    refused(rt);
 }

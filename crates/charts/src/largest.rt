@@ -24,38 +24,34 @@ fn write_to(vertices: &[i32; 12288], buffer: &mut [u8]) -> Answer {
     )
 }
 
-fn short() {
+fn short(rt: &impl Print) {
     let mut buffer = [238u8; 49318];
     let written = write_to(&zigzag(), &mut buffer);
-    lines::print_kept(
-        b"write_room_49318",
-        written,
-        check::same(&buffer, &[238; 49318]),
-    )
+    lines::print_kept(rt, b"write_room_49318", written, buffer == [238; 49318])
 }
 
 // Loads the first n bytes.
-fn load_front(label: &[u8], bytes: &[u8], n: usize, vertices: &mut [i32; 12288])
+fn load_front(rt: &impl Print, label: &[u8], bytes: &[u8], n: usize, vertices: &mut [i32; 12288])
     requires { n ≤ length bytes.now }
 {
-    lines::print_sheet(label, read::load(&bytes[0..n], vertices))
+    lines::print_sheet(rt, label, read::load(&bytes[0..n], vertices))
 }
 
 // The vertices write the same bytes.
-fn write_again(vertices: &[i32; 12288], bytes: &[u8]) {
+fn write_again(rt: &impl Print, vertices: &[i32; 12288], bytes: &[u8]) {
     let mut buffer = [238u8; 49320];
     let written = write_to(vertices, &mut buffer);
-    lines::print_kept(b"load_again", written, check::same(&buffer, bytes))
+    lines::print_kept(rt, b"load_again", written, buffer[..] == bytes[..])
 }
 
 // The byte behind the sheet stays. A sheet that is refused leaves the vertices as they are.
-pub(crate) fn run() {
-    short();
+pub(crate) fn run(rt: &impl Print) {
+    short(rt);
     let mut buffer = [238u8; 49320];
     let written = write_to(&zigzag(), &mut buffer);
-    lines::print_kept(b"write_49319", written, buffer[49319] == 238);
+    lines::print_kept(rt, b"write_49319", written, buffer[49319] == 238);
     let mut vertices = [0i32; 12288];
-    load_front(b"load_49319", &buffer, 49319, &mut vertices);
-    load_front(b"load_49318", &buffer, 49318, &mut vertices);
-    write_again(&vertices, &buffer)
+    load_front(rt, b"load_49319", &buffer, 49319, &mut vertices);
+    load_front(rt, b"load_49318", &buffer, 49318, &mut vertices);
+    write_again(rt, &vertices, &buffer)
 }

@@ -7,8 +7,9 @@
 // (`largest`). A line that ends in `yes` says that a buffer is what it has to be: all of it, or of `write_49319` the
 // byte behind the sheet, which `load_again` compares with a second one. A line of edges looked at has their number
 // alone, one of a sheet that is read what `lines::print_sheet` names. Proved: each function is safe and ends. Assumes
-// what `libc` states of C's write, and nothing else.
+// what std's own calls state of C's write and of errno, and nothing else.
 #![tactic(auto)]
+
 mod calls;
 mod feeds;
 mod given;
@@ -19,12 +20,12 @@ mod octant;
 mod reading;
 mod writing;
 
-fn main() {
-    octant::run();
-    lists::run();
-    calls::run();
-    feeds::run();
-    reading::run();
-    writing::run();
-    largest::run();
+fn main(rt: HostRuntime) {
+    octant::run(&rt);
+    lists::run(&rt);
+    calls::run(&rt);
+    feeds::run(&rt);
+    reading::run(&rt);
+    writing::run(&rt);
+    largest::run(&rt);
 }

@@ -39,15 +39,15 @@ pub(crate) fn octant_on(grid: Grid) -> [u8; 84]
 }
 
 // Its first n bytes.
-fn front(label: &[u8], grid: Grid, n: usize)
+fn front(rt: &impl Print, label: &[u8], grid: Grid, n: usize)
     requires { n ≤ 84 }
 {
     let sheet = octant_on(grid);
-    lines::print_sheet(label, read::read(&sheet[0..n]))
+    lines::print_sheet(rt, label, read::read(&sheet[0..n]))
 }
 
 // What was read is written again, its points and its grid too: the same bytes.
-fn again(label: &[u8], grid: Grid) {
+fn again(rt: &impl Print, label: &[u8], grid: Grid) {
     let bytes = octant_on(grid);
     let sheet = read::read(&bytes);
     let own = sheet.grid;
@@ -64,14 +64,14 @@ fn again(label: &[u8], grid: Grid) {
         on(own, second),
         &mut buffer,
     );
-    lines::print_kept(label, written, check::same(&buffer, &bytes))
+    lines::print_kept(rt, label, written, buffer == bytes)
 }
 
 // A refused sheet has no parts and the coarse grid, whatever its tag.
-pub(crate) fn run() {
-    front(b"sheet_69", Grid::Coarse, 69);
-    front(b"sheet_fine_84", Grid::Fine, 84);
-    front(b"sheet_fine_68", Grid::Fine, 68);
-    again(b"again_84", Grid::Coarse);
-    again(b"again_fine_84", Grid::Fine);
+pub(crate) fn run(rt: &impl Print) {
+    front(rt, b"sheet_69", Grid::Coarse, 69);
+    front(rt, b"sheet_fine_84", Grid::Fine, 84);
+    front(rt, b"sheet_fine_68", Grid::Fine, 68);
+    again(rt, b"again_84", Grid::Coarse);
+    again(rt, b"again_fine_84", Grid::Fine);
 }
