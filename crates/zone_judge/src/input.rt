@@ -2,12 +2,13 @@
 // standard error.
 // Here, in order: read_sheet, read_queries, fail, warn_of_terminal.
 
-ghost use Rattle.std.specs.Prelude.{◌≡◌, ◌%◌, ◌≤◌, length};
-ghost use Rattle.io.specs.Counts.{IsPrefixLen};
+ghost use Rattle.std.specs.Prelude.{◌≡◌, ◌%◌, ◌≤◌, length, take};
 
-use crate::calls;
 use crate::calls::Filled;
-use libc::{ENOENT, STDERR_FILENO, STDIN_FILENO};
+use crate::{calls, faults};
+use std::fs;
+use std::io::{Error, ErrorKind, IsTerminal, Read};
+use std::rt::Files;
 
 // One byte more than the longest sheet, so that a longer file is seen to be one.
 pub(crate) const SHEET_MOST: usize = 49_320;
@@ -18,58 +19,58 @@ pub(crate) const QUERY: usize = 12;
 pub(crate) const PIECE: usize = 49_152;
 
 // The sheet's bytes, put at the start of `bytes`. A missing file is an empty sheet; one that cannot be read is not.
-pub(crate) fn read_sheet(bytes: &mut [u8; 49320]) -> Filled
-    ensures { IsPrefixLen result.size bytes.new }
+pub(crate) fn read_sheet(rt: &(impl Files + Eprint + Alloc), bytes: &mut [u8; 49320]) -> Filled
+    ensures { (result.size ≤ length bytes.new) × (result.size ≡ length (take result.size bytes.new)) }
 {
-    let fd = os::open_read(b"zone.sheet");
-    if fd < 0 {
-        if os::errno() == ENOENT {
-            return Filled {
-                size: 0,
-                failed: false,
-            };
+    match fs::open(rt, "zone.sheet") {
+        Ok(mut file) => {
+            let filled = calls::fill(&mut file, bytes, 0, SHEET_MOST);
+            if let Some(error) = filled.failed {
+                faults::say(rt, "zone.sheet", error);
+            }
+            filled
         }
-        os::fail(b"zone_judge: zone.sheet");
-        return Filled {
-            size: 0,
-            failed: true,
-        };
+        Err(error) => {
+            if error.kind() == ErrorKind::NotFound {
+                return Filled {
+                    size: 0,
+                    failed: None,
+                };
+            }
+            faults::say(rt, "zone.sheet", error);
+            Filled {
+                size: 0,
+                failed: Some(error),
+            }
+        }
     }
-    let filled = calls::fill(fd, bytes, 0, SHEET_MOST);
-    if filled.failed {
-        os::fail(b"zone_judge: zone.sheet");
-        return filled;
-    }
-    libc::close(fd);
-    filled
 }
 
 // Reads what is there, and the rest of the last query: no more, so that a caller that waits for its answers gets them.
 // Without a failure, the number of bytes read is 0 or not a multiple of 12 only where the input ends.
-pub(crate) fn read_queries(piece: &mut [u8]) -> Filled
+pub(crate) fn read_queries(input: &mut impl Read, piece: &mut [u8]) -> Filled
     requires { length piece.old % 12 ≡ 0 }
     ensures { result.size ≤ length piece.old }
 {
-    let got = calls::read(STDIN_FILENO, piece);
+    let got = calls::read(input, piece);
     let n = got.size;
     let part = n % QUERY;
     if part == 0 {
         return got;
     }
-    calls::fill(STDIN_FILENO, piece, n, n - part + QUERY)
+    calls::fill(input, piece, n, n - part + QUERY)
 }
 
-// Says why standard input could not be read, just after that.
-pub(crate) fn fail() {
-    os::fail(b"zone_judge: standard input");
+// Says why standard input could not be read.
+pub(crate) fn fail(rt: &(impl Eprint + Alloc), error: Error) {
+    faults::say(rt, "standard input", error);
 }
 
 // Where standard input is a terminal, says on standard error what is waited for: few people type queries of 12 bytes.
-pub(crate) fn warn_of_terminal() {
-    if libc::isatty(STDIN_FILENO) != 0 {
-        io::write_all(
-            STDERR_FILENO,
-            b"zone_judge: standard input is a terminal; queries of 12 bytes come from a file or a pipe\n",
+pub(crate) fn warn_of_terminal(rt: &impl Eprint, input: &impl IsTerminal) {
+    if input.is_terminal() {
+        let _ = eprintln!(rt;
+            "zone_judge: standard input is a terminal; queries of 12 bytes come from a file or a pipe"
         );
     }
 }

@@ -1,15 +1,18 @@
 // Lines of output, put into a buffer: number, place and count, parted by single spaces.
-// Here, in order: put_decimal, put_number, put_line, put_result, put_answer, fail, print, finish.
+// Here, in order: put_decimal, put_number, put_line, put_result, put_answer, fail, print, file_of_output, finish.
 
 ghost use Rattle.std.specs.Prelude.{◌≡◌, ◌+◌, ◌≤◌, length};
 ghost use Rattle.std.proofs.lemmas.List.Edits.{sets};
 ghost use Rattle.answer.specs.Answer.{number_of, place_of, count_of};
 ghost use Rattle.zone_judge.specs.Line.{decimal, ended, line_of, result_line};
 
-use crate::calls;
+use crate::{calls, faults};
 use answer::Answer;
 use big_endian::read;
-use libc::{EBADF, STDOUT_FILENO};
+use std::fs::OpenFile;
+use std::io::{Error, ErrorKind};
+use std::rt::Files;
+use std::{fs, io};
 
 // The bytes of the longest line: three numbers of at most 20 digits, two spaces and the end of the line.
 pub(crate) const LONGEST: usize = 63;
@@ -81,28 +84,46 @@ pub(crate) fn put_answer(given: Answer, out: &mut [u8], at: usize) -> usize
     put_line(number, place as u64, answer::count(given), out, at)
 }
 
-// Says why standard output could not be written, just after that.
-fn fail() {
-    os::fail(b"zone_judge: standard output");
+// Says why standard output could not be written.
+fn fail(rt: &(impl Eprint + Alloc), error: Error) {
+    faults::say(rt, "standard output", error);
 }
 
 // Writes the first bytes of `out` to standard output. Whether all were written; if not, standard error says why.
-pub(crate) fn print(out: &[u8], end: usize) -> bool
+pub(crate) fn print(rt: &(impl Print + Eprint + Alloc), out: &[u8], end: usize) -> bool
     requires { end ≤ length out.now }
 {
-    let written = calls::write_all(STDOUT_FILENO, &out[..end]);
-    if !written {
-        fail();
+    match calls::write_all(&mut io::writer(rt), &out[..end]) {
+        Ok(()) => true,
+        Err(error) => {
+            fail(rt, error);
+            false
+        }
     }
-    written
 }
 
-// Standard output is done with. Some file systems say only now that the disk is full. One that was closed from the
-// start has been told of, if there was anything to write.
-pub(crate) fn finish() {
-    if libc::close(STDOUT_FILENO) < 0 {
-        if os::errno() != EBADF {
-            fail();
+// Standard output, opened once more, where it is a file: std's own handle of it cannot be written back.
+fn file_of_output<R: Files>(rt: &R) -> Option<R::File> {
+    let is_file = match fs::metadata(rt, "/dev/stdout") {
+        Ok(about) => about.is_file(),
+        Err(_) => false,
+    };
+    if !is_file {
+        return None;
+    }
+    fs::OpenOptions::new()
+        .write(true)
+        .open(rt, "/dev/stdout")
+        .ok()
+}
+
+// Standard output is done with. Some file systems say only when they write a file back that the disk is full.
+pub(crate) fn finish(rt: &(impl Files + Eprint + Alloc)) {
+    if let Some(file) = file_of_output(rt) {
+        if let Err(error) = file.sync_data() {
+            if error.kind() != ErrorKind::InvalidInput {
+                fail(rt, error);
+            }
         }
     }
 }

@@ -6,6 +6,7 @@ ghost use Rattle.std.proofs.lemmas.List.Edits.{sets};
 ghost use Rattle.zone_judge.specs.Line.{lines_of};
 
 use crate::{input, lines};
+use std::io::Read;
 use zone::feeds;
 
 // Room for the lines of the 4,096 queries of a piece.
@@ -39,40 +40,48 @@ fn put_lines(results: &[u8], n: usize, out: &mut [u8]) -> usize
 // One piece: reads, judges and writes. The number of its queries, or 0 where there is nothing more to do: the input
 // ended, or a read or a write failed. After a read that failed the whole queries before it are answered, and nothing is
 // said of a cut one: the input did not end there.
-fn judge_piece(sheet: &[u8], done: u64, piece: &mut [u8], results: &mut [u8], out: &mut [u8]) -> u64
+fn judge_piece(
+    rt: &(impl Print + Eprint + Alloc),
+    input: &mut impl Read,
+    sheet: &[u8],
+    done: u64,
+    piece: &mut [u8],
+    results: &mut [u8],
+    out: &mut [u8],
+) -> u64
     requires done_bound { (done < 18000000000000000000) × (length piece.old ≡ 49152) }
     requires results_len { (length results.old ≡ 49152) × (length out.old ≡ 258048) }
     ensures { result ≤ 4096 }
 {
-    let got = input::read_queries(piece);
+    let got = input::read_queries(input, piece);
     let size = got.size;
     let n = size / input::QUERY;
     judge_whole(sheet, piece, n * input::QUERY, results);
     let end = put_lines(results, n, out);
-    if got.failed {
-        input::fail();
-        lines::print(out, end);
+    if let Some(error) = got.failed {
+        input::fail(rt, error);
+        lines::print(rt, out, end);
         return 0;
     }
     if size % input::QUERY == 0 {
-        if lines::print(out, end) {
+        if lines::print(rt, out, end) {
             return n as u64;
         }
         return 0;
     }
     let cut_end = lines::put_line(20, done + n as u64, 0, out, end);
-    lines::print(out, cut_end);
+    lines::print(rt, out, cut_end);
     0
 }
 
 // All of standard input, against an accepted sheet.
-pub(crate) fn judge_all(sheet: &[u8]) {
+pub(crate) fn judge_all(rt: &(impl Print + Eprint + Alloc), input: &mut impl Read, sheet: &[u8]) {
     let mut piece = [0u8; input::PIECE];
     let mut results = [0u8; input::PIECE];
     let mut out = [0u8; OUTPUT];
     let mut done: u64 = 0;
     while done < QUERIES_MOST {
-        let answered = judge_piece(sheet, done, &mut piece, &mut results, &mut out);
+        let answered = judge_piece(rt, input, sheet, done, &mut piece, &mut results, &mut out);
         if answered == 0 {
             return;
         }
