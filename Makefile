@@ -1,7 +1,7 @@
 # make            this list
 # make run        the main job on the sample, from maps to verdicts and a page: by a C compiler and Python alone
 # make octant     the proved program, built and run on document 01's octant: four lines
-# make test       the gate: the layout, rt ci, the C form, the host tests, the command's; ends with rt's 'N passed, 0 failed'
+# make test       the gate: rt ci, the C form, the host tests, the command's; ends with rt's 'N passed, 0 failed'
 # make check      the same
 # make lib        target/staticlib/libspargolutta.a, and target/sharedlib/libspargolutta.so made of it
 # make bin        target/bin/zone_judge, the program
@@ -19,8 +19,8 @@
 # make fuzz       libFuzzer over all calls against the host tests' second implementation, for SECONDS=60 seconds; FORM=c
 # make c          portable/spargolutta.c, the library as one C file, made anew from the proved crates
 # make numbers    share/spargolutta/numbers.tsv, the table of numbers for other languages
-# make fmt        the layout that the gate asks for
-# make clean      removes target/; the next build proves every crate again
+# make fmt        the layout that rt ci asks for
+# make clean      removes target/ and what rt keeps in the crates' out/ folders: the next build proves every crate again
 SHELL := /bin/bash
 .SHELLFLAGS := -o pipefail -ec
 .PHONY: help run octant test check lib bin install uninstall host-test tool-test bench fuzz numbers fmt clean
@@ -38,8 +38,9 @@ help:
 ARCHIVE := target/staticlib/libspargolutta.a
 SHARED := target/sharedlib/libspargolutta.so
 PROGRAM := target/bin/zone_judge
-# Folders too: their times tell of files that were removed.
-SOURCES := rattle-toolchain crates.txt $(shell find crates -name must-fail -prune -o -print)
+# Folders too: their times tell of files that were removed. rt makes the out/ folders.
+SOURCES := rattle-toolchain crates.txt tools/prove $(shell find crates -mindepth 2 \( -name must-fail -o -name out \) \
+	-prune -o -print)
 # As the header says it: MAJOR, MINOR or PATCH.
 VERSION_PART = $(shell sed -n 's/^\#define SPG_VERSION_$(1) //p' include/spargolutta.h)
 MAJOR := $(call VERSION_PART,MAJOR)
@@ -50,13 +51,6 @@ VERSION := $(MAJOR).$(call VERSION_PART,MINOR).$(call VERSION_PART,PATCH)
 TOOLCHAIN = wanted=$$(cat rattle-toolchain); found=$$(rt version 2> /dev/null || true); \
 	[ "$$found" = "$$wanted" ] \
 	|| echo "Proving needs the Rattle toolchain '$$wanted'; on the PATH is $${found:-none}." >&2; [ -n "$$found" ]
-# Shows rt's lines as they come, with 'k of n' (tests/progress); the prover's notes go to a log, named on failure.
-PROVE = $(TOOLCHAIN); log=$$(mktemp); $(1) 2>&1 | tee "$$log" | tests/progress $(2) >&2 \
-	|| { echo "The whole log: $$log" >&2; tail -n 40 "$$log" >&2; exit 1; }; rm "$$log"
-# How many crates rt goes through for one: itself and those under it, by crates.txt.
-UNDER = $(shell awk -v top=$(1) '/^[a-z]/ { sub(":", "", $$1); for (i = 2; i <= NF; i++) under[$$1] = under[$$1] " " $$i; \
-	listed[$$1] } function mark(c,  i, n, cs) { if (!(c in listed) || c in seen) return; seen[c]; k++; \
-	n = split(under[c], cs, " "); for (i = 1; i <= n; i++) mark(cs[i]) } END { mark(top); print k }' crates.txt)
 
 include portable/portable.mk
 PYTHON ?= python3
@@ -68,17 +62,14 @@ lib: $(ARCHIVE) $(SHARED)
 
 bin: $(PROGRAM)
 
-# Two objects, so that each loop over queries has its own copy of what is called in it. rt leaves alone what it finds
-# unchanged, hence 'touch'.
+# What `rt ci` has just proved is taken; else all that changed is proved here.
 $(ARCHIVE): $(SOURCES)
-	@$(call PROVE,rt staticlib spargolutta,$(call UNDER,spargolutta))
-	@$(call PROVE,rt staticlib spargolutta_books,$(call UNDER,spargolutta_books))
-	@cd $(@D) && ar x libspargolutta_books.a && ar rs $(@F) spargolutta_books.o && rm spargolutta_books.o
-	@touch $@
+	@$(TOOLCHAIN)
+	@tools/prove library
 
 $(PROGRAM): $(SOURCES)
-	@$(call PROVE,rt check zone_judge,$(call UNDER,zone_judge))
-	@touch $@
+	@$(TOOLCHAIN)
+	@tools/prove program
 
 # The soname has the header's major number.
 $(SHARED): $(ARCHIVE) packaging/spargolutta.map include/spargolutta.h
@@ -87,7 +78,7 @@ $(SHARED): $(ARCHIVE) packaging/spargolutta.map include/spargolutta.h
 		-Wl,-z,defs -Wl,-z,text -Wl,--whole-archive $(ARCHIVE) -Wl,--no-whole-archive
 
 clean:
-	rm -rf target
+	rm -rf target crates/*/out
 
 # Installing
 
@@ -107,13 +98,13 @@ install uninstall:
 CARGO := CARGO_TARGET_DIR='$(CURDIR)/target/cargo' cargo
 
 # A line a crate and an edit, as they come. rt's last line, 'N passed, 0 failed', is held back until everything else has
-# passed too.
+# passed too. target/proved says when this run of rt began, and by which toolchain: tools/prove takes what it proved.
 test check:
-	@$(TOOLCHAIN); log=$$(mktemp); \
-	rt fmt --check; \
+	@$(TOOLCHAIN); log=$$(mktemp); mkdir -p target; rm -f target/proved; rt version > target/begun; \
 	n=$$(cat <(grep '^[a-z]' crates.txt) <(ls crates/*/must-fail/*.edit) | wc -l); \
 	rt ci | tee "$$log" | tests/progress $$n || { echo "The whole log: $$log"; tail -n 40 "$$log"; exit 1; }; \
-	tests/edits; \
+	tests/edits "$$log"; \
+	mv target/begun target/proved; \
 	$(MAKE) --no-print-directory c-check host-test digest octant-check tool-test; \
 	tail -n 1 "$$log"; rm "$$log"
 
@@ -153,4 +144,4 @@ numbers: lib
 	@target/numbers < include/spargolutta.h > share/spargolutta/numbers.tsv
 
 fmt:
-	rt fmt
+	@for crate in $$(sed -n 's/^\([a-z_]*\).*:.*/\1/p' crates.txt); do (cd crates/$$crate && rt fmt); done

@@ -1,11 +1,11 @@
 """Wrong translators: each mutant changes one rule of mir2c, and the digest of the C that it makes has to differ.
 
-    python3 portable/mutants.py [CLASS...]      needs target/staticlib, target/rlib and cc
+    python3 portable/mutants.py [CLASS...]      needs target/staticlib, target/mir and cc
 
-Every rule has a mutant; CLASS is type, step, operand, op2, op1, rvalue or statement. A mutant that cannot change an
-answer has a line that says why; one whose rule no exported call reaches makes the same C file, and that is said. A
-mutant is noticed where the translator refuses, C refuses, the program ends badly or does not end, or a line of the
-digest differs.
+Every rule has a mutant; CLASS is type, step, operand, op2, op1, rvalue, constant or statement. A mutant that cannot
+change an answer has a line that says why; one whose rule no exported call reaches makes the same C file, and that is
+said. A mutant is noticed where the translator refuses, C refuses, the program ends badly or does not end, or a line of
+the digest differs.
 """
 import os
 import shutil
@@ -23,7 +23,7 @@ from rules import RULES  # noqa: E402
 WORK = ('3', '800')
 HEADER = os.path.join(ROOT, 'include', 'spargolutta.h')
 KIT = os.path.dirname(os.path.dirname(os.path.realpath(shutil.which('rt') or sys.exit('mutants: there is no rt'))))
-MIR = [os.path.join(ROOT, 'target', 'rlib'), os.path.join(KIT, 'on', 'x86_64', 'rlib')]
+MIR = [os.path.join(ROOT, 'target', 'mir'), os.path.join(KIT, 'rlibs')]
 
 
 def run(words, **more):

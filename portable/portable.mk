@@ -6,8 +6,8 @@ C_FILE := portable/spargolutta.c
 C_LIB := target/portable
 CFLAGS ?= -O3
 
-# The MIR of the proved crates, which the archive's build leaves in target/rlib, and of the toolchain's own library.
-MIR = target/rlib $$(dirname "$$(dirname "$$(readlink -f "$$(command -v rt)")")")/on/x86_64/rlib
+# The MIR of the proved crates, which the archive's build leaves in target/mir, and of the toolchain's own library.
+MIR = target/mir $$(dirname "$$(dirname "$$(readlink -f "$$(command -v rt)")")")/rlibs
 
 # Anew from the MIR.
 c: $(ARCHIVE)

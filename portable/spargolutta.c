@@ -186,16 +186,17 @@ static INLINE uint64_t spargolutta__meanings__index(uint32_t l1)
 static INLINE uint32_t spargolutta__meanings__spg_place_kind(uint32_t l1)
 {
     uint32_t l0;
-    array_uint32_t_38 l2;
+    array_uint32_t_38 *l2;
     uint64_t l3;
     uint64_t l4;
     unsigned char *l5;
     unsigned char *l6;
     uint32_t l7;
-    l2 = (array_uint32_t_38){.e[0] = UINT32_C(6), .e[1] = UINT32_C(0), .e[2] = UINT32_C(0), .e[3] = UINT32_C(1), .e[4] = UINT32_C(0), .e[5] = UINT32_C(0), .e[6] = UINT32_C(0), .e[7] = UINT32_C(0), .e[8] = UINT32_C(0), .e[9] = UINT32_C(0), .e[10] = UINT32_C(0), .e[11] = UINT32_C(2), .e[12] = UINT32_C(2), .e[13] = UINT32_C(1), .e[14] = UINT32_C(1), .e[15] = UINT32_C(0), .e[16] = UINT32_C(1), .e[17] = UINT32_C(0), .e[18] = UINT32_C(0), .e[19] = UINT32_C(0), .e[20] = UINT32_C(3), .e[21] = UINT32_C(3), .e[22] = UINT32_C(3), .e[23] = UINT32_C(3), .e[24] = UINT32_C(3), .e[25] = UINT32_C(4), .e[26] = UINT32_C(0), .e[27] = UINT32_C(4), .e[28] = UINT32_C(0), .e[29] = UINT32_C(0), .e[30] = UINT32_C(3), .e[31] = UINT32_C(5), .e[32] = UINT32_C(0), .e[33] = UINT32_C(5), .e[34] = UINT32_C(0), .e[35] = UINT32_C(1), .e[36] = UINT32_C(3), .e[37] = UINT32_C(0)};
+    static const array_uint32_t_38 l2_1 = {{6, 0, 0, 1, 0, 0, 0, 0, 0, 0, 0, 2, 2, 1, 1, 0, 1, 0, 0, 0, 3, 3, 3, 3, 3, 4, 0, 4, 0, 0, 3, 5, 0, 5, 0, 1, 3, 0}};
+    l2 = (array_uint32_t_38 *)(void *)&l2_1;
     l3 = spargolutta__meanings__index(l1);
     l4 = (l3 << 2);
-    l5 = (unsigned char *)(void *)&l2;
+    l5 = (unsigned char *)(void *)&(*l2);
     l6 = ((unsigned char *)(void *)l5 + (size_t)l4);
     l7 = (*(uint32_t *)(void *)l6);
     l0 = l7;
@@ -1528,14 +1529,20 @@ static INLINE uint64_t sphere__plane__side_of(type_sphere__plane__Plane l1, type
     uint64_t l0;
     type_sphere__point__Grid l3;
     uint64_t l4;
+    type_sphere__point__Point l5;
+    type_sphere__point__Point l6;
+    type_sphere__approximate__Vector l7;
     l3 = l1.f2;
     switch (l3.tag) {
     case 0: {
-        l4 = sphere__orientation__dot(l1.f0, l2);
+        l5 = l1.f0;
+        l4 = sphere__orientation__dot(l5, l2);
         break;
     }
     case 1: default: {
-        l4 = sphere__plane__fine_side(l1.f0, l1.f1, l2);
+        l6 = l1.f0;
+        l7 = l1.f1;
+        l4 = sphere__plane__fine_side(l6, l7, l2);
         break;
     }
     }
@@ -2195,19 +2202,23 @@ static INLINE void search__boxes__put_box(slice_uint32_t l1, slice_uint32_t l2, 
     uint32_t *l6;
     slice_uint32_t l7;
     uint64_t l8;
-    uint32_t *l9;
-    slice_uint32_t l10;
-    uint64_t l11;
+    type_sphere__point__Point l9;
+    uint32_t *l10;
+    slice_uint32_t l11;
+    uint64_t l12;
+    type_sphere__point__Point l13;
     l4 = search__boxes__run_box(l1, l3);
     l6 = (uint32_t *)(void *)&(*l2.f0);
     l7 = (slice_uint32_t){.f0 = l6, .f1 = l2.f1};
     l8 = (l3 * UINT64_C(6));
-    search__boxes__put_corner(l7, l8, l4.f0);
-    l9 = (uint32_t *)(void *)&(*l2.f0);
-    l10 = (slice_uint32_t){.f0 = l9, .f1 = l2.f1};
+    l9 = l4.f0;
+    search__boxes__put_corner(l7, l8, l9);
+    l10 = (uint32_t *)(void *)&(*l2.f0);
+    l11 = (slice_uint32_t){.f0 = l10, .f1 = l2.f1};
     l8 = (l3 * UINT64_C(6));
-    l11 = (l8 + UINT64_C(3));
-    search__boxes__put_corner(l10, l11, l4.f1);
+    l12 = (l8 + UINT64_C(3));
+    l13 = l4.f1;
+    search__boxes__put_corner(l11, l12, l13);
     return;
 }
 
@@ -2286,7 +2297,8 @@ static type_sheet__open__Opened sheet__open__plain_into(slice_uint8_t l1, slice_
     slice_uint32_t l18;
     uint32_t *l19;
     slice_uint32_t l20;
-    type_sheet__open__Opened l21;
+    type_sphere__point__Point l21;
+    type_sheet__open__Opened l22;
     l4 = fields__fields_check(l1);
     l5 = l4.f0;
     switch (l5.tag) {
@@ -2311,20 +2323,21 @@ static type_sheet__open__Opened sheet__open__plain_into(slice_uint8_t l1, slice_
     l18 = (slice_uint32_t){.f0 = l17, .f1 = l9};
     l19 = (uint32_t *)(void *)&(*l3.f0);
     l20 = (slice_uint32_t){.f0 = l19, .f1 = l3.f1};
-    l16 = judging__accept__accept_boxed(l10, l18, l20, l8.f2);
+    l21 = l8.f2;
+    l16 = judging__accept__accept_boxed(l10, l18, l20, l21);
     switch (l16.tag) {
     case 0: {
-        l21 = l8;
+        l22 = l8;
         break;
     }
     case 1: default: {
         l11 = l16.s0;
         l12 = l16.s1;
-        l21 = sheet__open__refused(l11, l12);
+        l22 = sheet__open__refused(l11, l12);
         break;
     }
     }
-    l0 = l21;
+    l0 = l22;
     return l0;
 }
 
@@ -2458,16 +2471,20 @@ static INLINE uint64_t sphere__plane__exact_side_of(type_sphere__plane__Plane l1
     uint64_t l0;
     type_sphere__point__Grid l3;
     uint64_t l4;
-    type_sphere__words__Words l5;
+    type_sphere__point__Point l5;
+    type_sphere__words__Words l6;
+    type_sphere__point__Point l7;
     l3 = l1.f2;
     switch (l3.tag) {
     case 0: {
-        l4 = sphere__orientation__dot(l1.f0, l2);
+        l5 = l1.f0;
+        l4 = sphere__orientation__dot(l5, l2);
         break;
     }
     case 1: default: {
-        l5 = sphere__words__word_dot(l1.f0, l2);
-        l4 = sphere__words__word_side(l5);
+        l7 = l1.f0;
+        l6 = sphere__words__word_dot(l7, l2);
+        l4 = sphere__words__word_side(l6);
         break;
     }
     }
@@ -2548,27 +2565,31 @@ static type_search__spans__Span search__spans__next_span(slice_uint32_t l1, slic
     uint64_t l8;
     uint64_t l9;
     bool l10;
-    uint64_t l11;
-    uint64_t l12;
+    type_sphere__plane__Plane l11;
+    type_sphere__plane__Plane l12;
     uint64_t l13;
     uint64_t l14;
+    uint64_t l15;
+    uint64_t l16;
     l9 = l1.f1;
     l5 = (l9 / UINT64_C(3));
     l6 = search__boxes__run_count(l5);
     l10 = l3.f3;
     if (l10) {
-        l7 = search__spans__next_run(l2, l3.f2, l4, l6, false);
-        l11 = (l7 + UINT64_C(1));
-        l8 = search__spans__next_run(l2, l3.f2, l11, l6, true);
-        l11 = search__spans__run_start(l5, l7);
-        l12 = search__spans__run_start(l5, l8);
-        l13 = (l8 + UINT64_C(1));
-        l0 = (type_search__spans__Span){.f0 = l11, .f1 = l12, .f2 = l13};
+        l11 = l3.f2;
+        l7 = search__spans__next_run(l2, l11, l4, l6, false);
+        l12 = l3.f2;
+        l13 = (l7 + UINT64_C(1));
+        l8 = search__spans__next_run(l2, l12, l13, l6, true);
+        l13 = search__spans__run_start(l5, l7);
+        l14 = search__spans__run_start(l5, l8);
+        l15 = (l8 + UINT64_C(1));
+        l0 = (type_search__spans__Span){.f0 = l13, .f1 = l14, .f2 = l15};
         return l0;
     }
     l9 = search__spans__run_start(l5, l4);
-    l14 = (l6 + UINT64_C(1));
-    l0 = (type_search__spans__Span){.f0 = l9, .f1 = l5, .f2 = l14};
+    l16 = (l6 + UINT64_C(1));
+    l0 = (type_search__spans__Span){.f0 = l9, .f1 = l5, .f2 = l16};
     return l0;
 }
 
@@ -2637,8 +2658,10 @@ static INLINE uint64_t search__scan__past_sure(slice_uint32_t l1, type_sphere__p
     bool l9;
     uint64_t l10;
     bool l11;
-    type_sphere__point__Point l12;
-    bool l13;
+    type_sphere__approximate__Vector l12;
+    type_sphere__point__Point l13;
+    type_sphere__approximate__Vector l14;
+    bool l15;
     l6 = l4;
     for (;;) {
         l10 = (l6 + UINT64_C(1));
@@ -2647,15 +2670,17 @@ static INLINE uint64_t search__scan__past_sure(slice_uint32_t l1, type_sphere__p
         } else {
             goto exit0;
         }
+        l12 = l2.f1;
         l10 = (l6 + UINT64_C(1));
-        l12 = polygon__vertices__vertex_at(l1, l10);
-        l7 = sphere__approximate__float_dot(l2.f1, l12);
+        l13 = polygon__vertices__vertex_at(l1, l10);
+        l7 = sphere__approximate__float_dot(l12, l13);
+        l14 = l2.f1;
         l10 = (l6 + UINT64_C(2));
-        l12 = polygon__vertices__vertex_at(l1, l10);
-        l8 = sphere__approximate__float_dot(l2.f1, l12);
+        l13 = polygon__vertices__vertex_at(l1, l10);
+        l8 = sphere__approximate__float_dot(l14, l13);
         l11 = sphere__approximate__is_surely(l7, l3);
-        l13 = sphere__approximate__is_surely(l8, l3);
-        l9 = (l11 & l13);
+        l15 = sphere__approximate__is_surely(l8, l3);
+        l9 = (l11 & l15);
         l11 = !l9;
         if (l11) {
             l0 = l6;
@@ -2765,10 +2790,12 @@ static INLINE type_search__scan__Near search__scan__near_from(slice_uint32_t l1,
     uint64_t l7;
     uint64_t l8;
     uint64_t l9;
+    type_sphere__plane__Plane l10;
     l8 = l1.f1;
     l9 = (l8 / UINT64_C(3));
     l7 = search__scan__last_inner(l9, l6);
-    l0 = search__scan__next_near(l1, l2.f2, l3, l4, l5, l7);
+    l10 = l2.f2;
+    l0 = search__scan__next_near(l1, l10, l3, l4, l5, l7);
     return l0;
 }
 
@@ -2871,9 +2898,11 @@ static INLINE bool search__border__stops_at(slice_uint32_t l1, type_search__arc_
     bool l6;
     type_sphere__point__Point l7;
     type_sphere__point__Point l8;
+    type_sphere__point__Point l9;
     l7 = polygon__vertices__vertex_at(l1, l4);
     l8 = polygon__vertices__end_of(l1, l4);
-    l6 = sphere__edge__on_edge_by(l7, l8, l2.f1, l5);
+    l9 = l2.f1;
+    l6 = sphere__edge__on_edge_by(l7, l8, l9, l5);
     if (l6) {
         l0 = l3;
         return l0;
@@ -2962,8 +2991,10 @@ static type_search__walk__EdgeTest search__walk__test_edge(slice_uint32_t l1, ty
     bool l10;
     type_sphere__point__Point l11;
     type_sphere__point__Point l12;
-    bool l13;
-    uint32_t l14;
+    type_sphere__point__Point l13;
+    bool l14;
+    uint32_t l15;
+    type_sphere__point__Point l16;
     l10 = sphere__crossing__is_beside(l4.f1, l4.f2);
     if (l10) {
         l0 = (type_search__walk__EdgeTest){.tag = 1, .s0 = UINT32_C(0)};
@@ -2975,14 +3006,16 @@ static type_search__walk__EdgeTest search__walk__test_edge(slice_uint32_t l1, ty
     l11 = polygon__vertices__vertex_at(l1, l5);
     l12 = polygon__vertices__end_of(l1, l5);
     l8 = sphere__plane__plane_through(l7, l11, l12);
-    l9 = sphere__plane__side_of(l8, l2.f1);
-    l13 = search__border__stops_at(l1, l2, l3, l5, l9);
-    if (l13) {
+    l13 = l2.f1;
+    l9 = sphere__plane__side_of(l8, l13);
+    l14 = search__border__stops_at(l1, l2, l3, l5, l9);
+    if (l14) {
         l0 = (type_search__walk__EdgeTest){.tag = 0};
         return l0;
     }
-    l14 = sphere__crossing__crossing_from(l8, l2.f0, l4.f1, l4.f2, l9);
-    l0 = (type_search__walk__EdgeTest){.tag = 1, .s0 = l14};
+    l16 = l2.f0;
+    l15 = sphere__crossing__crossing_from(l8, l16, l4.f1, l4.f2, l9);
+    l0 = (type_search__walk__EdgeTest){.tag = 1, .s0 = l15};
     return l0;
 }
 
@@ -3030,44 +3063,46 @@ static INLINE type_search__walk__Tally search__walk__walk_edges(slice_uint32_t l
     type_search__scan__Near l12;
     uint32_t l13;
     uint32_t l14;
-    type_answer__Found l15;
-    bool l16;
-    type_search__walk__EdgeTest l17;
-    uint32_t l18;
+    type_sphere__plane__Plane l15;
+    type_answer__Found l16;
+    bool l17;
+    type_search__walk__EdgeTest l18;
     uint32_t l19;
+    uint32_t l20;
     l7 = l4;
-    l8 = search__scan__side_at(l1, l2.f2, l3, l4);
+    l15 = l2.f2;
+    l8 = search__scan__side_at(l1, l15, l3, l4);
     l9 = UINT32_C(0);
     l10 = UINT32_C(0);
     for (;;) {
         l12 = search__scan__near_from(l1, l2, l3, l7, l8, l5);
-        l16 = (l5 <= l12.f0);
-        if (l16) {
-            l15 = (type_answer__Found){.tag = 0};
+        l17 = (l5 <= l12.f0);
+        if (l17) {
+            l16 = (type_answer__Found){.tag = 0};
             goto exit0;
         }
-        l17 = search__walk__test_edge(l1, l2, l6, l12);
-        switch (l17.tag) {
+        l18 = search__walk__test_edge(l1, l2, l6, l12);
+        switch (l18.tag) {
         case 0: {
-            l15 = (type_answer__Found){.tag = 1, .s0 = l12.f0};
+            l16 = (type_answer__Found){.tag = 1, .s0 = l12.f0};
             goto exit0;
             break;
         }
         case 1: default: {
-            l14 = l17.s0;
-            l18 = l14;
+            l14 = l18.s0;
+            l19 = l14;
             break;
         }
         }
-        l13 = l18;
-        l19 = search__walk__counted(l13);
-        l9 = (l9 + l19);
+        l13 = l19;
+        l20 = search__walk__counted(l13);
+        l9 = (l9 + l20);
         l10 = (l10 + l13);
         l7 = (l12.f0 + UINT64_C(1));
         l8 = l12.f2;
     }
 exit0:;
-    l11 = l15;
+    l11 = l16;
     l0 = search__walk__tally_by(l11, l9, l10);
     return l0;
 }
@@ -3084,35 +3119,37 @@ static type_search__walk__Tally search__walk__walk_spans(slice_uint32_t l1, slic
     uint64_t l12;
     uint32_t l13;
     uint32_t l14;
-    type_sphere__point__Point l15;
-    type_answer__Found l16;
-    bool l17;
-    type_search__walk__Tally l18;
-    uint64_t l19;
-    l15 = polygon__vertices__vertex_at(l1, UINT64_C(0));
-    l6 = sphere__plane__side_of(l3.f2, l15);
+    type_sphere__plane__Plane l15;
+    type_sphere__point__Point l16;
+    type_answer__Found l17;
+    bool l18;
+    type_search__walk__Tally l19;
+    uint64_t l20;
+    l15 = l3.f2;
+    l16 = polygon__vertices__vertex_at(l1, UINT64_C(0));
+    l6 = sphere__plane__side_of(l15, l16);
     l7 = (l4 / UINT64_C(32));
     l8 = UINT32_C(0);
     l9 = UINT32_C(0);
     for (;;) {
         l11 = search__spans__next_span(l1, l2, l3, l7);
-        l17 = (l11.f1 <= l11.f0);
-        if (l17) {
-            l16 = (type_answer__Found){.tag = 0};
+        l18 = (l11.f1 <= l11.f0);
+        if (l18) {
+            l17 = (type_answer__Found){.tag = 0};
             goto exit0;
         }
-        l19 = search__spans__later(l4, l11.f0);
-        l18 = search__walk__walk_edges(l1, l3, l6, l19, l11.f1, l5);
-        switch (l18.tag) {
+        l20 = search__spans__later(l4, l11.f0);
+        l19 = search__walk__walk_edges(l1, l3, l6, l20, l11.f1, l5);
+        switch (l19.tag) {
         case 0: {
-            l12 = l18.s0;
-            l16 = (type_answer__Found){.tag = 1, .s0 = l12};
+            l12 = l19.s0;
+            l17 = (type_answer__Found){.tag = 1, .s0 = l12};
             goto exit0;
             break;
         }
         case 1: default: {
-            l13 = l18.s1;
-            l14 = l18.s2;
+            l13 = l19.s1;
+            l14 = l19.s2;
             l8 = (l8 + l13);
             l9 = (l9 + l14);
             break;
@@ -3121,7 +3158,7 @@ static type_search__walk__Tally search__walk__walk_spans(slice_uint32_t l1, slic
         l7 = l11.f2;
     }
 exit0:;
-    l10 = l16;
+    l10 = l17;
     l0 = search__walk__tally_by(l10, l8, l9);
     return l0;
 }
@@ -3171,6 +3208,7 @@ static INLINE bool corridors__border__is_off(uint64_t l1, type_sphere__point__Po
     uint64_t l6;
     type_sphere__point__Grid l7;
     uint64_t l8;
+    type_sphere__point__Point l9;
     l5 = (l1 == UINT64_C(3));
     if (l5) {
         l6 = corridors__border__sum_of(l2, l3);
@@ -3179,7 +3217,8 @@ static INLINE bool corridors__border__is_off(uint64_t l1, type_sphere__point__Po
     }
     l7 = (type_sphere__point__Grid){.tag = 1};
     l4 = sphere__plane__plane_through(l7, l2, l3);
-    l8 = corridors__border__number_of(l1, l4.f0);
+    l9 = l4.f0;
+    l8 = corridors__border__number_of(l1, l9);
     l0 = (l8 != UINT64_C(0));
     return l0;
 }
@@ -3609,24 +3648,28 @@ static INLINE type_search__walk__Tally search__border__tally_marked(slice_uint32
     type_sphere__point__Grid l5;
     type_search__arc__Arc l6;
     uint64_t l7;
-    type_answer__Found l8;
-    type_search__walk__Tally l9;
+    type_sphere__point__Point l8;
+    type_sphere__point__Point l9;
+    type_answer__Found l10;
+    type_search__walk__Tally l11;
     l4 = l3.f2;
     l5 = l4.f2;
-    l6 = search__arc__arc_between(l5, l3.f0, l3.f1, false);
-    l8 = search__border__first_border(l1, l2, l6);
-    switch (l8.tag) {
+    l8 = l3.f0;
+    l9 = l3.f1;
+    l6 = search__arc__arc_between(l5, l8, l9, false);
+    l10 = search__border__first_border(l1, l2, l6);
+    switch (l10.tag) {
     case 0: {
-        l9 = search__walk__walk_spans(l1, l2, l3, UINT64_C(0), false);
+        l11 = search__walk__walk_spans(l1, l2, l3, UINT64_C(0), false);
         break;
     }
     case 1: default: {
-        l7 = l8.s0;
-        l9 = (type_search__walk__Tally){.tag = 0, .s0 = l7};
+        l7 = l10.s0;
+        l11 = (type_search__walk__Tally){.tag = 0, .s0 = l7};
         break;
     }
     }
-    l0 = l9;
+    l0 = l11;
     return l0;
 }
 
@@ -3777,15 +3820,17 @@ static type_search__walk__Searched search__walk__count_edges(type_sphere__point_
     type_search__arc__Arc l6;
     type_search__walk__Tally l7;
     uint32_t l8;
-    uint64_t l9;
+    type_sphere__plane__Plane l9;
     uint64_t l10;
     uint64_t l11;
+    uint64_t l12;
     l6 = search__arc__arc_between(l1, l4, l5, true);
     l7 = search__border__tally_arc(l2, l3, l6);
-    l10 = l2.f1;
-    l11 = (l10 / UINT64_C(3));
-    l9 = search__looked__reach_of(l7, l11);
-    l8 = search__looked__looked_before(l3, l6.f2, l9);
+    l9 = l6.f2;
+    l11 = l2.f1;
+    l12 = (l11 / UINT64_C(3));
+    l10 = search__looked__reach_of(l7, l12);
+    l8 = search__looked__looked_before(l3, l9, l10);
     l0 = (type_search__walk__Searched){.f0 = l7, .f1 = l8};
     return l0;
 }
@@ -4043,7 +4088,9 @@ static INLINE type_sheet__open__Opened sheet__open__open_into(slice_uint8_t l1, 
     slice_uint32_t l17;
     uint32_t *l18;
     slice_uint32_t l19;
-    type_sheet__open__Opened l20;
+    type_sphere__point__Point l20;
+    type_sphere__point__Point l21;
+    type_sheet__open__Opened l22;
     l10 = (uint32_t *)(void *)&(*l2.f0);
     l11 = (slice_uint32_t){.f0 = l10, .f1 = l2.f1};
     l12 = (uint32_t *)(void *)&(*l3.f0);
@@ -4068,20 +4115,22 @@ static INLINE type_sheet__open__Opened sheet__open__open_into(slice_uint8_t l1, 
         l17 = (slice_uint32_t){.f0 = l16, .f1 = l6};
         l18 = (uint32_t *)(void *)&(*l3.f0);
         l19 = (slice_uint32_t){.f0 = l18, .f1 = l3.f1};
-        l15 = judging__second__second_check(l7, l17, l19, l4.f2, l4.f3);
+        l20 = l4.f2;
+        l21 = l4.f3;
+        l15 = judging__second__second_check(l7, l17, l19, l20, l21);
         switch (l15.tag) {
         case 0: {
-            l20 = l4;
+            l22 = l4;
             break;
         }
         case 1: default: {
             l8 = l15.s0;
             l9 = l15.s1;
-            l20 = sheet__open__refused(l8, l9);
+            l22 = sheet__open__refused(l8, l9);
             break;
         }
         }
-        l0 = l20;
+        l0 = l22;
         return l0;
     }
     l0 = l4;
@@ -4105,6 +4154,8 @@ static INLINE type_judging__judge__Judgement zone__judge__judged_in(slice_uint8_
     slice_uint32_t l17;
     uint32_t *l18;
     slice_uint32_t l19;
+    type_sphere__point__Point l20;
+    type_sphere__point__Point l21;
     l12 = (uint32_t *)(void *)&(*l3.f0);
     l13 = (slice_uint32_t){.f0 = l12, .f1 = l3.f1};
     l14 = (uint32_t *)(void *)&(*l4.f0);
@@ -4129,7 +4180,9 @@ static INLINE type_judging__judge__Judgement zone__judge__judged_in(slice_uint8_
     l17 = (slice_uint32_t){.f0 = l16, .f1 = l11};
     l18 = (uint32_t *)(void *)&(*l4.f0);
     l19 = (slice_uint32_t){.f0 = l18, .f1 = l4.f1};
-    l0 = judging__judge__judge_boxed(l10, l17, l19, l6.f2, l6.f3, l2, l5);
+    l20 = l6.f2;
+    l21 = l6.f3;
+    l0 = judging__judge__judge_boxed(l10, l17, l19, l20, l21, l2, l5);
     return l0;
 }
 
@@ -4604,10 +4657,14 @@ static INLINE uint64_t azimuths__sectors__azimuth(type_azimuths__azimuth__Frame 
 {
     uint64_t l0;
     uint64_t l3;
-    uint64_t l4;
-    l3 = sphere__orientation__dot(l1.f0, l2);
-    l4 = sphere__orientation__dot(l1.f1, l2);
-    l0 = azimuths__azimuth__azimuth_by(l3, l4);
+    type_sphere__point__Point l4;
+    uint64_t l5;
+    type_sphere__point__Point l6;
+    l4 = l1.f0;
+    l3 = sphere__orientation__dot(l4, l2);
+    l6 = l1.f1;
+    l5 = sphere__orientation__dot(l6, l2);
+    l0 = azimuths__azimuth__azimuth_by(l3, l5);
     return l0;
 }
 
@@ -5824,14 +5881,20 @@ static INLINE type_cones__sure__SureSide cones__sure__sure_side(type_sphere__pla
     type_cones__sure__SureSide l0;
     type_sphere__point__Grid l3;
     type_cones__sure__SureSide l4;
+    type_sphere__point__Point l5;
+    type_sphere__point__Point l6;
+    type_sphere__approximate__Vector l7;
     l3 = l1.f2;
     switch (l3.tag) {
     case 0: {
-        l4 = cones__sure__whole_side(l1.f0, l2);
+        l5 = l1.f0;
+        l4 = cones__sure__whole_side(l5, l2);
         break;
     }
     case 1: default: {
-        l4 = cones__sure__float_side(l1.f0, l1.f1, l2);
+        l6 = l1.f0;
+        l7 = l1.f1;
+        l4 = cones__sure__float_side(l6, l7, l2);
         break;
     }
     }
@@ -6007,9 +6070,11 @@ static INLINE bool cones__walk__is_on_border(slice_uint32_t l1, type_search__arc
     bool l7;
     type_sphere__point__Point l8;
     type_sphere__point__Point l9;
+    type_sphere__point__Point l10;
     l8 = polygon__vertices__vertex_at(l1, l5);
     l9 = polygon__vertices__end_of(l1, l5);
-    l7 = sphere__edge__on_edge_by(l8, l9, l2.f1, l6);
+    l10 = l2.f1;
+    l7 = sphere__edge__on_edge_by(l8, l9, l10, l6);
     if (l7) {
         l0 = cones__walk__is_border(l1, l3, l4, l5);
         return l0;
@@ -6030,8 +6095,10 @@ static type_search__walk__EdgeTest cones__walk__test_listed(slice_uint32_t l1, t
     type_sphere__plane__Plane l12;
     uint64_t l13;
     bool l14;
-    bool l15;
-    uint32_t l16;
+    type_sphere__point__Point l15;
+    bool l16;
+    uint32_t l17;
+    type_sphere__point__Point l18;
     l6 = l2.f2;
     l7 = polygon__vertices__vertex_at(l1, l5);
     l8 = polygon__vertices__end_of(l1, l5);
@@ -6044,14 +6111,16 @@ static type_search__walk__EdgeTest cones__walk__test_listed(slice_uint32_t l1, t
     }
     l11 = l6.f2;
     l12 = sphere__plane__plane_through(l11, l7, l8);
-    l13 = sphere__plane__side_of(l12, l2.f1);
-    l15 = cones__walk__is_on_border(l1, l2, l3, l4, l5, l13);
-    if (l15) {
+    l15 = l2.f1;
+    l13 = sphere__plane__side_of(l12, l15);
+    l16 = cones__walk__is_on_border(l1, l2, l3, l4, l5, l13);
+    if (l16) {
         l0 = (type_search__walk__EdgeTest){.tag = 0};
         return l0;
     }
-    l16 = sphere__crossing__crossing_from(l12, l2.f0, l9, l10, l13);
-    l0 = (type_search__walk__EdgeTest){.tag = 1, .s0 = l16};
+    l18 = l2.f0;
+    l17 = sphere__crossing__crossing_from(l12, l18, l9, l10, l13);
+    l0 = (type_search__walk__EdgeTest){.tag = 1, .s0 = l17};
     return l0;
 }
 
@@ -6165,47 +6234,51 @@ static type_search__walk__Tally cones__query__tally_edges(type_sphere__point__Gr
     uint64_t l19;
     uint64_t l20;
     type_search__arc__Arc l21;
-    bool l22;
-    bool l23;
+    type_sphere__point__Point l22;
+    type_sphere__point__Point l23;
     bool l24;
-    uint64_t l25;
+    bool l25;
     bool l26;
-    bool l27;
+    uint64_t l27;
     bool l28;
-    uint64_t l29;
+    bool l29;
     bool l30;
-    bool l31;
-    uint16_t *l32;
-    slice_uint16_t l33;
+    uint64_t l31;
+    bool l32;
+    bool l33;
+    uint16_t *l34;
+    slice_uint16_t l35;
     l13 = l9.f2;
-    l14 = sphere__orientation__dot(l13.f0, l11);
-    l15 = sphere__orientation__dot(l13.f1, l11);
+    l22 = l13.f0;
+    l14 = sphere__orientation__dot(l22, l11);
+    l23 = l13.f1;
+    l15 = sphere__orientation__dot(l23, l11);
     l16 = azimuths__azimuth__azimuth_by(l14, l15);
     l17 = cones__query__guess(l5, l6, l9.f0, l16);
-    l22 = cones__query__is_aside(l14, l15);
-    l23 = (UINT64_C(0) < l17);
-    l24 = (l22 & l23);
-    if (l24) {
-        l25 = (l17 - UINT64_C(1));
-        l18 = cones__table__row_at(l5, l25);
+    l24 = cones__query__is_aside(l14, l15);
+    l25 = (UINT64_C(0) < l17);
+    l26 = (l24 & l25);
+    if (l26) {
+        l27 = (l17 - UINT64_C(1));
+        l18 = cones__table__row_at(l5, l27);
         l19 = l18.f2;
         l20 = l18.f3;
-        l26 = (l18.f0 <= l16);
-        l27 = (l16 <= l18.f1);
-        l28 = (l26 & l27);
-        l25 = (l20 - l19);
-        l29 = l8.f1;
-        l30 = (l25 <= l29);
-        l31 = (l28 & l30);
-        if (l31) {
-            l32 = (uint16_t *)(void *)&(*l8.f0);
-            l33 = (slice_uint16_t){.f0 = l32, .f1 = l8.f1};
-            l0 = cones__told__tally_near(l1, l2, l10, l11, l4, l16, l7, l19, l20, l33);
+        l28 = (l18.f0 <= l16);
+        l29 = (l16 <= l18.f1);
+        l30 = (l28 & l29);
+        l27 = (l20 - l19);
+        l31 = l8.f1;
+        l32 = (l27 <= l31);
+        l33 = (l30 & l32);
+        if (l33) {
+            l34 = (uint16_t *)(void *)&(*l8.f0);
+            l35 = (slice_uint16_t){.f0 = l34, .f1 = l8.f1};
+            l0 = cones__told__tally_near(l1, l2, l10, l11, l4, l16, l7, l19, l20, l35);
             return l0;
         }
     }
-    l22 = search__looked__asks_boxes(l12);
-    l21 = search__arc__arc_between(l1, l10, l11, l22);
+    l24 = search__looked__asks_boxes(l12);
+    l21 = search__arc__arc_between(l1, l10, l11, l24);
     l0 = search__border__tally_arc(l2, l3, l21);
     return l0;
 }
@@ -6525,8 +6598,10 @@ static INLINE type_answer__Answer zone__feeds__feed_in(slice_uint8_t l1, slice_u
     slice_uint32_t l22;
     uint32_t *l23;
     slice_uint32_t l24;
-    uint8_t *l25;
-    slice_uint8_t l26;
+    type_sphere__point__Point l25;
+    type_sphere__point__Point l26;
+    uint8_t *l27;
+    slice_uint8_t l28;
     l15 = l3.f1;
     l14 = feed__size_check(l2, l15);
     switch (l14.tag) {
@@ -6565,9 +6640,11 @@ static INLINE type_answer__Answer zone__feeds__feed_in(slice_uint8_t l1, slice_u
     l22 = (slice_uint32_t){.f0 = l21, .f1 = l13};
     l23 = (uint32_t *)(void *)&(*l5.f0);
     l24 = (slice_uint32_t){.f0 = l23, .f1 = l5.f1};
-    l25 = (uint8_t *)(void *)&(*l3.f0);
-    l26 = (slice_uint8_t){.f0 = l25, .f1 = l3.f1};
-    feed__judge_each(l12, l22, l24, l8.f2, l8.f3, l2, l26);
+    l25 = l8.f2;
+    l26 = l8.f3;
+    l27 = (uint8_t *)(void *)&(*l3.f0);
+    l28 = (slice_uint8_t){.f0 = l27, .f1 = l3.f1};
+    feed__judge_each(l12, l22, l24, l25, l26, l2, l28);
     l0 = (type_answer__Answer){.tag = 0, .s0 = UINT64_C(0)};
     return l0;
 }
@@ -6855,6 +6932,7 @@ static APART type_answer__Answer zone__choose__choose(slice_uint8_t l1, slice_ui
     slice_uint32_t l19;
     array_uint32_t_768 *l20;
     slice_uint32_t l21;
+    type_sphere__point__Point l22;
     l11 = l2.f1;
     l12 = (l11 % UINT64_C(12));
     l13 = (l12 != UINT64_C(0));
@@ -6890,7 +6968,8 @@ static APART type_answer__Answer zone__choose__choose(slice_uint8_t l1, slice_ui
     l19 = (slice_uint32_t){.f0 = (uint32_t *)(void *)l18, .f1 = l10};
     l20 = (array_uint32_t_768 *)(void *)&l4;
     l21 = (slice_uint32_t){.f0 = (uint32_t *)(void *)l20, .f1 = UINT64_C(768)};
-    l0 = zone__choose__earliest(l9, l19, l21, l5.f2, l2);
+    l22 = l5.f2;
+    l0 = zone__choose__earliest(l9, l19, l21, l22, l2);
     return l0;
 }
 
@@ -7115,17 +7194,41 @@ static bool basin__shared__shares(type_sphere__point__Grid l1, type_basin__share
     uint64_t l7;
     uint64_t l8;
     bool l9;
-    bool l10;
-    l9 = basin__shared__holds_end(l2.f0, l2.f1, l3.f0, l3.f1, l4, l5);
+    type_sphere__point__Point l10;
+    type_sphere__point__Point l11;
+    type_sphere__point__Point l12;
+    type_sphere__point__Point l13;
+    type_sphere__point__Point l14;
+    type_sphere__point__Point l15;
+    type_sphere__point__Point l16;
+    type_sphere__point__Point l17;
+    bool l18;
+    type_sphere__point__Point l19;
+    type_sphere__point__Point l20;
+    type_sphere__point__Point l21;
+    type_sphere__point__Point l22;
+    l10 = l2.f0;
+    l11 = l2.f1;
+    l12 = l3.f0;
+    l13 = l3.f1;
+    l9 = basin__shared__holds_end(l10, l11, l12, l13, l4, l5);
     if (l9) {
         l0 = true;
         return l0;
     }
-    l6 = sphere__plane__plane_through(l1, l3.f0, l3.f1);
-    l7 = sphere__plane__side_of(l6, l2.f0);
-    l8 = sphere__plane__side_of(l6, l2.f1);
-    l10 = basin__shared__holds_end(l3.f0, l3.f1, l2.f0, l2.f1, l7, l8);
-    if (l10) {
+    l14 = l3.f0;
+    l15 = l3.f1;
+    l6 = sphere__plane__plane_through(l1, l14, l15);
+    l16 = l2.f0;
+    l7 = sphere__plane__side_of(l6, l16);
+    l17 = l2.f1;
+    l8 = sphere__plane__side_of(l6, l17);
+    l19 = l3.f0;
+    l20 = l3.f1;
+    l21 = l2.f0;
+    l22 = l2.f1;
+    l18 = basin__shared__holds_end(l19, l20, l21, l22, l7, l8);
+    if (l18) {
         l0 = true;
         return l0;
     }
@@ -8228,7 +8331,7 @@ exit0:;
     return l0;
 }
 
-static INLINE uint64_t std__num__truncating_f64_to_u64(double l1)
+static INLINE uint64_t core__num__truncating_f64_to_u64(double l1)
 {
     uint64_t l0;
     uint64_t l2;
@@ -8263,7 +8366,7 @@ static INLINE uint64_t std__num__truncating_f64_to_u64(double l1)
     return l0;
 }
 
-static INLINE uint64_t std__num__truncating_f64_to_i64(double l1)
+static INLINE uint64_t core__num__truncating_f64_to_i64(double l1)
 {
     uint64_t l0;
     bool l2;
@@ -8278,14 +8381,14 @@ static INLINE uint64_t std__num__truncating_f64_to_i64(double l1)
     uint64_t l11;
     l2 = ((0x1.0000000000000p+0) <= l1);
     if (l2) {
-        l4 = std__num__truncating_f64_to_u64(l1);
+        l4 = core__num__truncating_f64_to_u64(l1);
         l3 = (uint64_t)l4;
     } else {
         l5 = (-(0x1.0000000000000p+0));
         l6 = (l1 <= l5);
         if (l6) {
             l9 = (-l1);
-            l8 = std__num__truncating_f64_to_u64(l9);
+            l8 = core__num__truncating_f64_to_u64(l9);
             l10 = (l8 - UINT64_C(1));
             l11 = (uint64_t)l10;
             l7 = (UINT64_C(18446744073709551615) - l11);
@@ -8309,7 +8412,7 @@ static INLINE uint64_t separation__find__whole(double l1)
     if (l3) {
         l4 = (l1 < (0x1.0000000000000p+63));
         if (l4) {
-            l0 = std__num__truncating_f64_to_i64(l1);
+            l0 = core__num__truncating_f64_to_i64(l1);
             return l0;
         }
     }
@@ -8968,8 +9071,10 @@ static INLINE void book_feed__sheets__add_opened(slice_uint8_t l1, uint64_t l2, 
     slice_uint32_t l22;
     uint32_t *l23;
     slice_uint32_t l24;
-    uint8_t *l25;
-    slice_uint8_t l26;
+    type_sphere__point__Point l25;
+    type_sphere__point__Point l26;
+    uint8_t *l27;
+    slice_uint8_t l28;
     l13 = (uint32_t *)(void *)&(*l5.f0);
     l14 = (slice_uint32_t){.f0 = l13, .f1 = l5.f1};
     l15 = (uint32_t *)(void *)&(*l6.f0);
@@ -8997,9 +9102,11 @@ static INLINE void book_feed__sheets__add_opened(slice_uint8_t l1, uint64_t l2, 
     l22 = (slice_uint32_t){.f0 = l21, .f1 = l12};
     l23 = (uint32_t *)(void *)&(*l6.f0);
     l24 = (slice_uint32_t){.f0 = l23, .f1 = l6.f1};
-    l25 = (uint8_t *)(void *)&(*l4.f0);
-    l26 = (slice_uint8_t){.f0 = l25, .f1 = l4.f1};
-    book_feed__sheets__add_polygon(l11, l22, l24, l7.f2, l7.f3, l2, l3, l26);
+    l25 = l7.f2;
+    l26 = l7.f3;
+    l27 = (uint8_t *)(void *)&(*l4.f0);
+    l28 = (slice_uint8_t){.f0 = l27, .f1 = l4.f1};
+    book_feed__sheets__add_polygon(l11, l22, l24, l25, l26, l2, l3, l28);
     return;
 }
 
@@ -9829,7 +9936,7 @@ static INLINE bool compare__differences__is_same_second(type_sphere__point__Poin
     return l0;
 }
 
-static INLINE type_compare__differences__Differences compare__differences__all_differences(slice_uint8_t l1, slice_uint8_t l2, type_sheet__read__Sheet l3, type_sheet__read__Sheet l4, type_compare__ring__Placed l5)
+static type_compare__differences__Differences compare__differences__all_differences(slice_uint8_t l1, slice_uint8_t l2, type_sheet__read__Sheet l3, type_sheet__read__Sheet l4, type_compare__ring__Placed l5)
 {
     type_compare__differences__Differences l0;
     type_compare__differences__Differences l6;
@@ -9839,26 +9946,34 @@ static INLINE type_compare__differences__Differences compare__differences__all_d
     type_sphere__point__Grid l10;
     type_compare__differences__Differences l11;
     bool l12;
-    bool l13;
-    uint32_t l14;
-    uint8_t l15;
-    uint8_t l16;
+    type_sphere__point__Point l13;
+    type_sphere__point__Point l14;
+    bool l15;
+    uint32_t l16;
+    uint8_t l17;
+    uint8_t l18;
+    type_sphere__point__Point l19;
+    type_sphere__point__Point l20;
     l6 = compare__differences__head_differences(l1, l2, l3, l4);
-    l12 = sphere__direction__same_direction(l3.f5, l4.f5);
-    l13 = !l12;
-    l7 = compare__differences__with_field(l6, 4, l13);
-    l14 = compare__ring__way(l5);
-    l12 = (l14 == UINT32_C(0));
+    l13 = l3.f5;
+    l14 = l4.f5;
+    l12 = sphere__direction__same_direction(l13, l14);
+    l15 = !l12;
+    l7 = compare__differences__with_field(l6, 4, l15);
+    l16 = compare__ring__way(l5);
+    l12 = (l16 == UINT32_C(0));
     l8 = compare__differences__with_field(l7, 5, l12);
     l9 = l3.f8;
     l10 = l4.f8;
-    l15 = fields__tag(l9);
-    l16 = fields__tag(l10);
-    l13 = (l15 != l16);
-    l11 = compare__differences__with_field(l8, 6, l13);
-    l12 = compare__differences__is_same_second(l3.f7, l4.f7);
-    l13 = !l12;
-    l0 = compare__differences__with_field(l11, 7, l13);
+    l17 = fields__tag(l9);
+    l18 = fields__tag(l10);
+    l15 = (l17 != l18);
+    l11 = compare__differences__with_field(l8, 6, l15);
+    l19 = l3.f7;
+    l20 = l4.f7;
+    l12 = compare__differences__is_same_second(l19, l20);
+    l15 = !l12;
+    l0 = compare__differences__with_field(l11, 7, l15);
     return l0;
 }
 
@@ -9890,7 +10005,7 @@ static INLINE uint64_t compare__ring__place(type_compare__ring__Placed l1)
     return l0;
 }
 
-static type_compare__Comparison compare__compare_read(slice_uint8_t l1, slice_uint8_t l2, type_sheet__read__Sheet l3, type_sheet__read__Sheet l4)
+static INLINE type_compare__Comparison compare__compare_read(slice_uint8_t l1, slice_uint8_t l2, type_sheet__read__Sheet l3, type_sheet__read__Sheet l4)
 {
     type_compare__Comparison l0;
     type_compare__ring__Placed l5;
@@ -9913,7 +10028,7 @@ static type_compare__Comparison compare__compare_read(slice_uint8_t l1, slice_ui
     return l0;
 }
 
-static INLINE type_compare__Comparison compare__compare(slice_uint8_t l1, slice_uint8_t l2)
+static type_compare__Comparison compare__compare(slice_uint8_t l1, slice_uint8_t l2)
 {
     type_compare__Comparison l0;
     type_sheet__read__Sheet l3;
@@ -10195,16 +10310,17 @@ static INLINE uint64_t positions__grammar__wide(uint8_t l1)
 static INLINE uint64_t positions__grammar__word_at(uint64_t l1)
 {
     uint64_t l0;
-    array_uint64_t_76 l2;
+    array_uint64_t_76 *l2;
     uint64_t l3;
     uint64_t l4;
     unsigned char *l5;
     unsigned char *l6;
     uint64_t l7;
-    l2 = (array_uint64_t_76){.e[0] = UINT64_C(123), .e[1] = UINT64_C(34), .e[2] = UINT64_C(116), .e[3] = UINT64_C(121), .e[4] = UINT64_C(112), .e[5] = UINT64_C(101), .e[6] = UINT64_C(34), .e[7] = UINT64_C(58), .e[8] = UINT64_C(34), .e[9] = UINT64_C(80), .e[10] = UINT64_C(111), .e[11] = UINT64_C(108), .e[12] = UINT64_C(121), .e[13] = UINT64_C(103), .e[14] = UINT64_C(111), .e[15] = UINT64_C(110), .e[16] = UINT64_C(34), .e[17] = UINT64_C(44), .e[18] = UINT64_C(34), .e[19] = UINT64_C(99), .e[20] = UINT64_C(111), .e[21] = UINT64_C(111), .e[22] = UINT64_C(114), .e[23] = UINT64_C(100), .e[24] = UINT64_C(105), .e[25] = UINT64_C(110), .e[26] = UINT64_C(97), .e[27] = UINT64_C(116), .e[28] = UINT64_C(101), .e[29] = UINT64_C(115), .e[30] = UINT64_C(34), .e[31] = UINT64_C(58), .e[32] = UINT64_C(91), .e[33] = UINT64_C(91), .e[34] = UINT64_C(256), .e[35] = UINT64_C(93), .e[36] = UINT64_C(125), .e[37] = UINT64_C(257), .e[38] = UINT64_C(123), .e[39] = UINT64_C(34), .e[40] = UINT64_C(99), .e[41] = UINT64_C(111), .e[42] = UINT64_C(111), .e[43] = UINT64_C(114), .e[44] = UINT64_C(100), .e[45] = UINT64_C(105), .e[46] = UINT64_C(110), .e[47] = UINT64_C(97), .e[48] = UINT64_C(116), .e[49] = UINT64_C(101), .e[50] = UINT64_C(115), .e[51] = UINT64_C(34), .e[52] = UINT64_C(58), .e[53] = UINT64_C(91), .e[54] = UINT64_C(91), .e[55] = UINT64_C(256), .e[56] = UINT64_C(93), .e[57] = UINT64_C(44), .e[58] = UINT64_C(34), .e[59] = UINT64_C(116), .e[60] = UINT64_C(121), .e[61] = UINT64_C(112), .e[62] = UINT64_C(101), .e[63] = UINT64_C(34), .e[64] = UINT64_C(58), .e[65] = UINT64_C(34), .e[66] = UINT64_C(80), .e[67] = UINT64_C(111), .e[68] = UINT64_C(108), .e[69] = UINT64_C(121), .e[70] = UINT64_C(103), .e[71] = UINT64_C(111), .e[72] = UINT64_C(110), .e[73] = UINT64_C(34), .e[74] = UINT64_C(125), .e[75] = UINT64_C(257)};
+    static const array_uint64_t_76 l2_1 = {{123, 34, 116, 121, 112, 101, 34, 58, 34, 80, 111, 108, 121, 103, 111, 110, 34, 44, 34, 99, 111, 111, 114, 100, 105, 110, 97, 116, 101, 115, 34, 58, 91, 91, 256, 93, 125, 257, 123, 34, 99, 111, 111, 114, 100, 105, 110, 97, 116, 101, 115, 34, 58, 91, 91, 256, 93, 44, 34, 116, 121, 112, 101, 34, 58, 34, 80, 111, 108, 121, 103, 111, 110, 34, 125, 257}};
+    l2 = (array_uint64_t_76 *)(void *)&l2_1;
     l3 = l1;
     l4 = (l3 << 3);
-    l5 = (unsigned char *)(void *)&l2;
+    l5 = (unsigned char *)(void *)&(*l2);
     l6 = ((unsigned char *)(void *)l5 + (size_t)l4);
     l7 = (*(uint64_t *)(void *)l6);
     l0 = l7;
@@ -10214,16 +10330,17 @@ static INLINE uint64_t positions__grammar__word_at(uint64_t l1)
 static INLINE uint64_t positions__grammar__gap_at(uint64_t l1)
 {
     uint64_t l0;
-    array_uint64_t_76 l2;
+    array_uint64_t_76 *l2;
     uint64_t l3;
     uint64_t l4;
     unsigned char *l5;
     unsigned char *l6;
     uint64_t l7;
-    l2 = (array_uint64_t_76){.e[0] = UINT64_C(1), .e[1] = UINT64_C(1), .e[2] = UINT64_C(0), .e[3] = UINT64_C(0), .e[4] = UINT64_C(0), .e[5] = UINT64_C(0), .e[6] = UINT64_C(0), .e[7] = UINT64_C(1), .e[8] = UINT64_C(1), .e[9] = UINT64_C(0), .e[10] = UINT64_C(0), .e[11] = UINT64_C(0), .e[12] = UINT64_C(0), .e[13] = UINT64_C(0), .e[14] = UINT64_C(0), .e[15] = UINT64_C(0), .e[16] = UINT64_C(0), .e[17] = UINT64_C(1), .e[18] = UINT64_C(1), .e[19] = UINT64_C(0), .e[20] = UINT64_C(0), .e[21] = UINT64_C(0), .e[22] = UINT64_C(0), .e[23] = UINT64_C(0), .e[24] = UINT64_C(0), .e[25] = UINT64_C(0), .e[26] = UINT64_C(0), .e[27] = UINT64_C(0), .e[28] = UINT64_C(0), .e[29] = UINT64_C(0), .e[30] = UINT64_C(0), .e[31] = UINT64_C(1), .e[32] = UINT64_C(1), .e[33] = UINT64_C(1), .e[34] = UINT64_C(1), .e[35] = UINT64_C(1), .e[36] = UINT64_C(1), .e[37] = UINT64_C(1), .e[38] = UINT64_C(1), .e[39] = UINT64_C(1), .e[40] = UINT64_C(0), .e[41] = UINT64_C(0), .e[42] = UINT64_C(0), .e[43] = UINT64_C(0), .e[44] = UINT64_C(0), .e[45] = UINT64_C(0), .e[46] = UINT64_C(0), .e[47] = UINT64_C(0), .e[48] = UINT64_C(0), .e[49] = UINT64_C(0), .e[50] = UINT64_C(0), .e[51] = UINT64_C(0), .e[52] = UINT64_C(1), .e[53] = UINT64_C(1), .e[54] = UINT64_C(1), .e[55] = UINT64_C(1), .e[56] = UINT64_C(1), .e[57] = UINT64_C(1), .e[58] = UINT64_C(1), .e[59] = UINT64_C(0), .e[60] = UINT64_C(0), .e[61] = UINT64_C(0), .e[62] = UINT64_C(0), .e[63] = UINT64_C(0), .e[64] = UINT64_C(1), .e[65] = UINT64_C(1), .e[66] = UINT64_C(0), .e[67] = UINT64_C(0), .e[68] = UINT64_C(0), .e[69] = UINT64_C(0), .e[70] = UINT64_C(0), .e[71] = UINT64_C(0), .e[72] = UINT64_C(0), .e[73] = UINT64_C(0), .e[74] = UINT64_C(1), .e[75] = UINT64_C(1)};
+    static const array_uint64_t_76 l2_1 = {{1, 1, 0, 0, 0, 0, 0, 1, 1, 0, 0, 0, 0, 0, 0, 0, 0, 1, 1, 0, 0, 0, 0, 0, 0, 0, 0, 0, 0, 0, 0, 1, 1, 1, 1, 1, 1, 1, 1, 1, 0, 0, 0, 0, 0, 0, 0, 0, 0, 0, 0, 0, 1, 1, 1, 1, 1, 1, 1, 0, 0, 0, 0, 0, 1, 1, 0, 0, 0, 0, 0, 0, 0, 0, 1, 1}};
+    l2 = (array_uint64_t_76 *)(void *)&l2_1;
     l3 = l1;
     l4 = (l3 << 3);
-    l5 = (unsigned char *)(void *)&l2;
+    l5 = (unsigned char *)(void *)&(*l2);
     l6 = ((unsigned char *)(void *)l5 + (size_t)l4);
     l7 = (*(uint64_t *)(void *)l6);
     l0 = l7;
@@ -11250,7 +11367,8 @@ static INLINE type_geojson__scan__Scanned geojson__scan__scan_with_either(array_
     uint32_t *l19;
     slice_uint32_t l20;
     type_geojson__ahead__Reached l21;
-    bool l22;
+    type_positions__number__Pending l22;
+    bool l23;
     l6 = (type_positions__grammar__State){.f0 = UINT64_C(0), .f1 = UINT64_C(0)};
     l7 = geojson__scan__start();
     l8 = UINT64_C(0);
@@ -11275,7 +11393,8 @@ static INLINE type_geojson__scan__Scanned geojson__scan__scan_with_either(array_
         l20 = (slice_uint32_t){.f0 = l19, .f1 = l5.f1};
         l7 = geojson__scan__step(l3, l7, l9, l20);
         l15 = (l8 + UINT64_C(1));
-        l21 = geojson__ahead__ahead(l4, l15, l6, l7.f0);
+        l22 = l7.f0;
+        l21 = geojson__ahead__ahead(l4, l15, l6, l22);
         l11 = l21.f0;
         l12 = l21.f1;
         l13 = l21.f2;
@@ -11285,13 +11404,13 @@ static INLINE type_geojson__scan__Scanned geojson__scan__scan_with_either(array_
     }
 exit0:;
     l14 = l6.f0;
-    l22 = (l14 == UINT64_C(37));
-    if (l22) {
+    l23 = (l14 == UINT64_C(37));
+    if (l23) {
         l0 = geojson__scan__finish(l7);
         return l0;
     }
-    l22 = (l14 == UINT64_C(75));
-    if (l22) {
+    l23 = (l14 == UINT64_C(75));
+    if (l23) {
         l0 = geojson__scan__finish(l7);
         return l0;
     }
@@ -11354,8 +11473,10 @@ static INLINE type_sphere__point__Grid polygon__grids__grid_of_second(type_spher
     type_sphere__point__Grid l0;
     type_sphere__point__Grid l3;
     bool l4;
+    type_sphere__point__Point l5;
     l3 = l2.f0;
-    l4 = sphere__point__is_null(l2.f1);
+    l5 = l2.f1;
+    l4 = sphere__point__is_null(l5);
     if (l4) {
         l0 = l1;
         return l0;
@@ -11468,6 +11589,8 @@ static INLINE type_answer__Check sheet__write__input_check(uint32_t l1, slice_ui
     uint64_t l12;
     type_answer__Check l13;
     type_sphere__point__Grid l14;
+    type_sphere__point__Point l15;
+    type_sphere__point__Point l16;
     l7 = l3.f0;
     l10 = fields__is_charset(l1);
     l11 = !l10;
@@ -11497,7 +11620,9 @@ static INLINE type_answer__Check sheet__write__input_check(uint32_t l1, slice_ui
         break;
     }
     }
-    l0 = judging__second__optional_check(l4, l5, l3.f1, l6.f1);
+    l15 = l3.f1;
+    l16 = l6.f1;
+    l0 = judging__second__optional_check(l4, l5, l15, l16);
     return l0;
 }
 
@@ -11855,10 +11980,13 @@ static INLINE type_answer__Answer sheet__write__write(uint32_t l1, uint32_t l2, 
     uint64_t l10;
     uint64_t l11;
     type_answer__Check l12;
-    uint64_t l13;
-    bool l14;
-    uint8_t *l16;
-    slice_uint8_t l17;
+    type_sphere__point__Point l13;
+    uint64_t l14;
+    bool l15;
+    uint8_t *l17;
+    slice_uint8_t l18;
+    type_sphere__point__Point l19;
+    type_sphere__point__Point l20;
     l12 = sheet__write__input_check(l2, l3, l4, l5, l6, l7);
     switch (l12.tag) {
     case 1: {
@@ -11872,16 +12000,19 @@ static INLINE type_answer__Answer sheet__write__write(uint32_t l1, uint32_t l2, 
         break;
     }
     }
-    l11 = sheet__write__bytes_needed(l3, l6, l7.f1);
-    l13 = l8.f1;
-    l14 = (l13 < l11);
-    if (l14) {
+    l13 = l7.f1;
+    l11 = sheet__write__bytes_needed(l3, l6, l13);
+    l14 = l8.f1;
+    l15 = (l14 < l11);
+    if (l15) {
         l0 = (type_answer__Answer){.tag = 4, .s1 = UINT32_C(25), .s0 = l11};
         return l0;
     }
-    l16 = (uint8_t *)(void *)&(*l8.f0);
-    l17 = (slice_uint8_t){.f0 = l16, .f1 = l8.f1};
-    sheet__store__put_sheet(l17, l1, l2, l3, l4.f1, l5, l6, l7.f1);
+    l17 = (uint8_t *)(void *)&(*l8.f0);
+    l18 = (slice_uint8_t){.f0 = l17, .f1 = l8.f1};
+    l19 = l4.f1;
+    l20 = l7.f1;
+    sheet__store__put_sheet(l18, l1, l2, l3, l19, l5, l6, l20);
     l0 = (type_answer__Answer){.tag = 0, .s0 = l11};
     return l0;
 }
@@ -11970,7 +12101,8 @@ static INLINE type_answer__Answer sheet__write__write_answer(uint32_t l1, slice_
     uint64_t l9;
     uint64_t l10;
     type_answer__Check l11;
-    bool l12;
+    type_sphere__point__Point l12;
+    bool l13;
     l11 = sheet__write__input_check(l1, l2, l3, l4, l5, l6);
     switch (l11.tag) {
     case 1: {
@@ -11984,9 +12116,10 @@ static INLINE type_answer__Answer sheet__write__write_answer(uint32_t l1, slice_
         break;
     }
     }
-    l10 = sheet__write__bytes_needed(l2, l5, l6.f1);
-    l12 = (l7 < l10);
-    if (l12) {
+    l12 = l6.f1;
+    l10 = sheet__write__bytes_needed(l2, l5, l12);
+    l13 = (l7 < l10);
+    if (l13) {
         l0 = (type_answer__Answer){.tag = 4, .s1 = UINT32_C(25), .s0 = l10};
         return l0;
     }
@@ -13466,6 +13599,8 @@ static type_extent__measure__Extent extent__measure__measure_in(slice_uint8_t l1
     slice_uint32_t l15;
     uint32_t *l16;
     slice_uint32_t l17;
+    type_sphere__point__Point l18;
+    type_sphere__point__Point l19;
     l10 = (uint32_t *)(void *)&(*l2.f0);
     l11 = (slice_uint32_t){.f0 = l10, .f1 = l2.f1};
     l12 = (uint32_t *)(void *)&(*l3.f0);
@@ -13490,7 +13625,9 @@ static type_extent__measure__Extent extent__measure__measure_in(slice_uint8_t l1
     l15 = (slice_uint32_t){.f0 = l14, .f1 = l9};
     l16 = (uint32_t *)(void *)&(*l3.f0);
     l17 = (slice_uint32_t){.f0 = l16, .f1 = l3.f1};
-    l0 = extent__measure__measure_polygon(l8, l15, l17, l4.f2, l4.f3);
+    l18 = l4.f2;
+    l19 = l4.f3;
+    l0 = extent__measure__measure_polygon(l8, l15, l17, l18, l19);
     return l0;
 }
 
@@ -13601,6 +13738,7 @@ static INLINE uint32_t extent__boxes__put_box(slice_uint8_t l1, slice_uint8_t l2
     bool l7;
     uint8_t *l9;
     slice_uint8_t l10;
+    type_extent__sides__Sides l11;
     l6 = l2.f1;
     l7 = (l6 < UINT64_C(24));
     if (l7) {
@@ -13622,7 +13760,8 @@ static INLINE uint32_t extent__boxes__put_box(slice_uint8_t l1, slice_uint8_t l2
     }
     l9 = (uint8_t *)(void *)&(*l2.f0);
     l10 = (slice_uint8_t){.f0 = l9, .f1 = l2.f1};
-    extent__boxes__store(l10, l3.f4);
+    l11 = l3.f4;
+    extent__boxes__store(l10, l11);
     l0 = UINT32_C(0);
     return l0;
 }
@@ -13722,16 +13861,17 @@ static INLINE uint32_t spargolutta__extents__spg_box_count(slice_uint8_t l1, uin
 static INLINE uint64_t spargolutta__meanings__text_start(uint32_t l1)
 {
     uint64_t l0;
-    array_uint64_t_38 l2;
+    array_uint64_t_38 *l2;
     uint64_t l3;
     uint64_t l4;
     unsigned char *l5;
     unsigned char *l6;
     uint64_t l7;
-    l2 = (array_uint64_t_38){.e[0] = UINT64_C(0), .e[1] = UINT64_C(4), .e[2] = UINT64_C(10), .e[3] = UINT64_C(17), .e[4] = UINT64_C(769), .e[5] = UINT64_C(769), .e[6] = UINT64_C(769), .e[7] = UINT64_C(769), .e[8] = UINT64_C(769), .e[9] = UINT64_C(769), .e[10] = UINT64_C(25), .e[11] = UINT64_C(53), .e[12] = UINT64_C(75), .e[13] = UINT64_C(90), .e[14] = UINT64_C(123), .e[15] = UINT64_C(143), .e[16] = UINT64_C(182), .e[17] = UINT64_C(223), .e[18] = UINT64_C(256), .e[19] = UINT64_C(286), .e[20] = UINT64_C(319), .e[21] = UINT64_C(334), .e[22] = UINT64_C(356), .e[23] = UINT64_C(387), .e[24] = UINT64_C(408), .e[25] = UINT64_C(434), .e[26] = UINT64_C(464), .e[27] = UINT64_C(489), .e[28] = UINT64_C(512), .e[29] = UINT64_C(769), .e[30] = UINT64_C(533), .e[31] = UINT64_C(581), .e[32] = UINT64_C(627), .e[33] = UINT64_C(666), .e[34] = UINT64_C(703), .e[35] = UINT64_C(720), .e[36] = UINT64_C(743), .e[37] = UINT64_C(769)};
+    static const array_uint64_t_38 l2_1 = {{0, 4, 10, 17, 769, 769, 769, 769, 769, 769, 25, 53, 75, 90, 123, 143, 182, 223, 256, 286, 319, 334, 356, 387, 408, 434, 464, 489, 512, 769, 533, 581, 627, 666, 703, 720, 743, 769}};
+    l2 = (array_uint64_t_38 *)(void *)&l2_1;
     l3 = spargolutta__meanings__index(l1);
     l4 = (l3 << 3);
-    l5 = (unsigned char *)(void *)&l2;
+    l5 = (unsigned char *)(void *)&(*l2);
     l6 = ((unsigned char *)(void *)l5 + (size_t)l4);
     l7 = (*(uint64_t *)(void *)l6);
     l0 = l7;
@@ -13741,16 +13881,17 @@ static INLINE uint64_t spargolutta__meanings__text_start(uint32_t l1)
 static INLINE uint64_t spargolutta__meanings__text_size(uint32_t l1)
 {
     uint64_t l0;
-    array_uint64_t_38 l2;
+    array_uint64_t_38 *l2;
     uint64_t l3;
     uint64_t l4;
     unsigned char *l5;
     unsigned char *l6;
     uint64_t l7;
-    l2 = (array_uint64_t_38){.e[0] = UINT64_C(4), .e[1] = UINT64_C(6), .e[2] = UINT64_C(7), .e[3] = UINT64_C(8), .e[4] = UINT64_C(14), .e[5] = UINT64_C(14), .e[6] = UINT64_C(14), .e[7] = UINT64_C(14), .e[8] = UINT64_C(14), .e[9] = UINT64_C(14), .e[10] = UINT64_C(28), .e[11] = UINT64_C(22), .e[12] = UINT64_C(15), .e[13] = UINT64_C(33), .e[14] = UINT64_C(20), .e[15] = UINT64_C(39), .e[16] = UINT64_C(41), .e[17] = UINT64_C(33), .e[18] = UINT64_C(30), .e[19] = UINT64_C(33), .e[20] = UINT64_C(15), .e[21] = UINT64_C(22), .e[22] = UINT64_C(31), .e[23] = UINT64_C(21), .e[24] = UINT64_C(26), .e[25] = UINT64_C(30), .e[26] = UINT64_C(25), .e[27] = UINT64_C(23), .e[28] = UINT64_C(21), .e[29] = UINT64_C(14), .e[30] = UINT64_C(48), .e[31] = UINT64_C(46), .e[32] = UINT64_C(39), .e[33] = UINT64_C(37), .e[34] = UINT64_C(17), .e[35] = UINT64_C(23), .e[36] = UINT64_C(26), .e[37] = UINT64_C(14)};
+    static const array_uint64_t_38 l2_1 = {{4, 6, 7, 8, 14, 14, 14, 14, 14, 14, 28, 22, 15, 33, 20, 39, 41, 33, 30, 33, 15, 22, 31, 21, 26, 30, 25, 23, 21, 14, 48, 46, 39, 37, 17, 23, 26, 14}};
+    l2 = (array_uint64_t_38 *)(void *)&l2_1;
     l3 = spargolutta__meanings__index(l1);
     l4 = (l3 << 3);
-    l5 = (unsigned char *)(void *)&l2;
+    l5 = (unsigned char *)(void *)&(*l2);
     l6 = ((unsigned char *)(void *)l5 + (size_t)l4);
     l7 = (*(uint64_t *)(void *)l6);
     l0 = l7;
@@ -13760,11 +13901,10 @@ static INLINE uint64_t spargolutta__meanings__text_size(uint32_t l1)
 static APART array_uint8_t_783 spargolutta__meanings__letters(void)
 {
     array_uint8_t_783 l0;
-    array_uint8_t_783 l1;
-    array_uint8_t_783 *l2;
-    l1 = (array_uint8_t_783){.e[0] = 100, .e[1] = 111, .e[2] = 110, .e[3] = 101, .e[4] = 105, .e[5] = 110, .e[6] = 115, .e[7] = 105, .e[8] = 100, .e[9] = 101, .e[10] = 111, .e[11] = 117, .e[12] = 116, .e[13] = 115, .e[14] = 105, .e[15] = 100, .e[16] = 101, .e[17] = 98, .e[18] = 111, .e[19] = 117, .e[20] = 110, .e[21] = 100, .e[22] = 97, .e[23] = 114, .e[24] = 121, .e[25] = 108, .e[26] = 105, .e[27] = 115, .e[28] = 116, .e[29] = 32, .e[30] = 111, .e[31] = 102, .e[32] = 32, .e[33] = 97, .e[34] = 32, .e[35] = 108, .e[36] = 101, .e[37] = 110, .e[38] = 103, .e[39] = 116, .e[40] = 104, .e[41] = 32, .e[42] = 110, .e[43] = 111, .e[44] = 116, .e[45] = 32, .e[46] = 97, .e[47] = 108, .e[48] = 108, .e[49] = 111, .e[50] = 119, .e[51] = 101, .e[52] = 100, .e[53] = 118, .e[54] = 101, .e[55] = 114, .e[56] = 116, .e[57] = 101, .e[58] = 120, .e[59] = 32, .e[60] = 98, .e[61] = 101, .e[62] = 121, .e[63] = 111, .e[64] = 110, .e[65] = 100, .e[66] = 32, .e[67] = 116, .e[68] = 104, .e[69] = 101, .e[70] = 32, .e[71] = 103, .e[72] = 114, .e[73] = 105, .e[74] = 100, .e[75] = 118, .e[76] = 101, .e[77] = 114, .e[78] = 116, .e[79] = 101, .e[80] = 120, .e[81] = 32, .e[82] = 97, .e[83] = 108, .e[84] = 108, .e[85] = 32, .e[86] = 122, .e[87] = 101, .e[88] = 114, .e[89] = 111, .e[90] = 115, .e[91] = 105, .e[92] = 100, .e[93] = 101, .e[94] = 39, .e[95] = 115, .e[96] = 32, .e[97] = 101, .e[98] = 110, .e[99] = 100, .e[100] = 115, .e[101] = 32, .e[102] = 105, .e[103] = 110, .e[104] = 32, .e[105] = 116, .e[106] = 104, .e[107] = 101, .e[108] = 32, .e[109] = 115, .e[110] = 97, .e[111] = 109, .e[112] = 101, .e[113] = 32, .e[114] = 100, .e[115] = 105, .e[116] = 114, .e[117] = 101, .e[118] = 99, .e[119] = 116, .e[120] = 105, .e[121] = 111, .e[122] = 110, .e[123] = 115, .e[124] = 105, .e[125] = 100, .e[126] = 101, .e[127] = 39, .e[128] = 115, .e[129] = 32, .e[130] = 101, .e[131] = 110, .e[132] = 100, .e[133] = 115, .e[134] = 32, .e[135] = 111, .e[136] = 112, .e[137] = 112, .e[138] = 111, .e[139] = 115, .e[140] = 105, .e[141] = 116, .e[142] = 101, .e[143] = 107, .e[144] = 110, .e[145] = 111, .e[146] = 119, .e[147] = 110, .e[148] = 32, .e[149] = 112, .e[150] = 111, .e[151] = 105, .e[152] = 110, .e[153] = 116, .e[154] = 32, .e[155] = 98, .e[156] = 101, .e[157] = 121, .e[158] = 111, .e[159] = 110, .e[160] = 100, .e[161] = 32, .e[162] = 116, .e[163] = 104, .e[164] = 101, .e[165] = 32, .e[166] = 103, .e[167] = 114, .e[168] = 105, .e[169] = 100, .e[170] = 32, .e[171] = 111, .e[172] = 114, .e[173] = 32, .e[174] = 97, .e[175] = 108, .e[176] = 108, .e[177] = 32, .e[178] = 122, .e[179] = 101, .e[180] = 114, .e[181] = 111, .e[182] = 107, .e[183] = 110, .e[184] = 111, .e[185] = 119, .e[186] = 110, .e[187] = 32, .e[188] = 112, .e[189] = 111, .e[190] = 105, .e[191] = 110, .e[192] = 116, .e[193] = 32, .e[194] = 111, .e[195] = 110, .e[196] = 32, .e[197] = 116, .e[198] = 104, .e[199] = 101, .e[200] = 32, .e[201] = 103, .e[202] = 114, .e[203] = 101, .e[204] = 97, .e[205] = 116, .e[206] = 32, .e[207] = 99, .e[208] = 105, .e[209] = 114, .e[210] = 99, .e[211] = 108, .e[212] = 101, .e[213] = 32, .e[214] = 111, .e[215] = 102, .e[216] = 32, .e[217] = 97, .e[218] = 32, .e[219] = 115, .e[220] = 105, .e[221] = 100, .e[222] = 101, .e[223] = 113, .e[224] = 117, .e[225] = 101, .e[226] = 114, .e[227] = 121, .e[228] = 32, .e[229] = 98, .e[230] = 101, .e[231] = 121, .e[232] = 111, .e[233] = 110, .e[234] = 100, .e[235] = 32, .e[236] = 116, .e[237] = 104, .e[238] = 101, .e[239] = 32, .e[240] = 103, .e[241] = 114, .e[242] = 105, .e[243] = 100, .e[244] = 32, .e[245] = 111, .e[246] = 114, .e[247] = 32, .e[248] = 97, .e[249] = 108, .e[250] = 108, .e[251] = 32, .e[252] = 122, .e[253] = 101, .e[254] = 114, .e[255] = 111, .e[256] = 113, .e[257] = 117, .e[258] = 101, .e[259] = 114, .e[260] = 121, .e[261] = 32, .e[262] = 111, .e[263] = 112, .e[264] = 112, .e[265] = 111, .e[266] = 115, .e[267] = 105, .e[268] = 116, .e[269] = 101, .e[270] = 32, .e[271] = 116, .e[272] = 104, .e[273] = 101, .e[274] = 32, .e[275] = 107, .e[276] = 110, .e[277] = 111, .e[278] = 119, .e[279] = 110, .e[280] = 32, .e[281] = 112, .e[282] = 111, .e[283] = 105, .e[284] = 110, .e[285] = 116, .e[286] = 110, .e[287] = 111, .e[288] = 32, .e[289] = 115, .e[290] = 101, .e[291] = 99, .e[292] = 111, .e[293] = 110, .e[294] = 100, .e[295] = 32, .e[296] = 107, .e[297] = 110, .e[298] = 111, .e[299] = 119, .e[300] = 110, .e[301] = 32, .e[302] = 112, .e[303] = 111, .e[304] = 105, .e[305] = 110, .e[306] = 116, .e[307] = 32, .e[308] = 116, .e[309] = 104, .e[310] = 97, .e[311] = 116, .e[312] = 32, .e[313] = 112, .e[314] = 97, .e[315] = 115, .e[316] = 115, .e[317] = 101, .e[318] = 115, .e[319] = 115, .e[320] = 104, .e[321] = 101, .e[322] = 101, .e[323] = 116, .e[324] = 32, .e[325] = 99, .e[326] = 117, .e[327] = 116, .e[328] = 32, .e[329] = 115, .e[330] = 104, .e[331] = 111, .e[332] = 114, .e[333] = 116, .e[334] = 119, .e[335] = 114, .e[336] = 111, .e[337] = 110, .e[338] = 103, .e[339] = 32, .e[340] = 116, .e[341] = 97, .e[342] = 103, .e[343] = 32, .e[344] = 105, .e[345] = 110, .e[346] = 32, .e[347] = 116, .e[348] = 104, .e[349] = 101, .e[350] = 32, .e[351] = 115, .e[352] = 104, .e[353] = 101, .e[354] = 101, .e[355] = 116, .e[356] = 108, .e[357] = 101, .e[358] = 110, .e[359] = 103, .e[360] = 116, .e[361] = 104, .e[362] = 32, .e[363] = 110, .e[364] = 111, .e[365] = 116, .e[366] = 32, .e[367] = 97, .e[368] = 108, .e[369] = 108, .e[370] = 111, .e[371] = 119, .e[372] = 101, .e[373] = 100, .e[374] = 32, .e[375] = 105, .e[376] = 110, .e[377] = 32, .e[378] = 116, .e[379] = 104, .e[380] = 101, .e[381] = 32, .e[382] = 115, .e[383] = 104, .e[384] = 101, .e[385] = 101, .e[386] = 116, .e[387] = 117, .e[388] = 110, .e[389] = 107, .e[390] = 110, .e[391] = 111, .e[392] = 119, .e[393] = 110, .e[394] = 32, .e[395] = 99, .e[396] = 104, .e[397] = 97, .e[398] = 114, .e[399] = 97, .e[400] = 99, .e[401] = 116, .e[402] = 101, .e[403] = 114, .e[404] = 32, .e[405] = 115, .e[406] = 101, .e[407] = 116, .e[408] = 98, .e[409] = 121, .e[410] = 116, .e[411] = 101, .e[412] = 115, .e[413] = 32, .e[414] = 97, .e[415] = 102, .e[416] = 116, .e[417] = 101, .e[418] = 114, .e[419] = 32, .e[420] = 116, .e[421] = 104, .e[422] = 101, .e[423] = 32, .e[424] = 108, .e[425] = 97, .e[426] = 115, .e[427] = 116, .e[428] = 32, .e[429] = 102, .e[430] = 105, .e[431] = 101, .e[432] = 108, .e[433] = 100, .e[434] = 98, .e[435] = 117, .e[436] = 102, .e[437] = 102, .e[438] = 101, .e[439] = 114, .e[440] = 32, .e[441] = 116, .e[442] = 111, .e[443] = 111, .e[444] = 32, .e[445] = 115, .e[446] = 104, .e[447] = 111, .e[448] = 114, .e[449] = 116, .e[450] = 32, .e[451] = 102, .e[452] = 111, .e[453] = 114, .e[454] = 32, .e[455] = 116, .e[456] = 104, .e[457] = 101, .e[458] = 32, .e[459] = 115, .e[460] = 104, .e[461] = 101, .e[462] = 101, .e[463] = 116, .e[464] = 113, .e[465] = 117, .e[466] = 101, .e[467] = 114, .e[468] = 121, .e[469] = 32, .e[470] = 111, .e[471] = 114, .e[472] = 32, .e[473] = 112, .e[474] = 111, .e[475] = 115, .e[476] = 105, .e[477] = 116, .e[478] = 105, .e[479] = 111, .e[480] = 110, .e[481] = 32, .e[482] = 99, .e[483] = 117, .e[484] = 116, .e[485] = 32, .e[486] = 111, .e[487] = 102, .e[488] = 102, .e[489] = 114, .e[490] = 101, .e[491] = 115, .e[492] = 117, .e[493] = 108, .e[494] = 116, .e[495] = 32, .e[496] = 98, .e[497] = 117, .e[498] = 102, .e[499] = 102, .e[500] = 101, .e[501] = 114, .e[502] = 32, .e[503] = 116, .e[504] = 111, .e[505] = 111, .e[506] = 32, .e[507] = 115, .e[508] = 104, .e[509] = 111, .e[510] = 114, .e[511] = 116, .e[512] = 103, .e[513] = 114, .e[514] = 105, .e[515] = 100, .e[516] = 32, .e[517] = 109, .e[518] = 105, .e[519] = 120, .e[520] = 101, .e[521] = 100, .e[522] = 32, .e[523] = 111, .e[524] = 114, .e[525] = 32, .e[526] = 117, .e[527] = 110, .e[528] = 107, .e[529] = 110, .e[530] = 111, .e[531] = 119, .e[532] = 110, .e[533] = 110, .e[534] = 111, .e[535] = 116, .e[536] = 32, .e[537] = 111, .e[538] = 110, .e[539] = 101, .e[540] = 32, .e[541] = 71, .e[542] = 101, .e[543] = 111, .e[544] = 74, .e[545] = 83, .e[546] = 79, .e[547] = 78, .e[548] = 32, .e[549] = 80, .e[550] = 111, .e[551] = 108, .e[552] = 121, .e[553] = 103, .e[554] = 111, .e[555] = 110, .e[556] = 32, .e[557] = 111, .e[558] = 102, .e[559] = 32, .e[560] = 116, .e[561] = 104, .e[562] = 101, .e[563] = 32, .e[564] = 107, .e[565] = 105, .e[566] = 110, .e[567] = 100, .e[568] = 32, .e[569] = 116, .e[570] = 104, .e[571] = 97, .e[572] = 116, .e[573] = 32, .e[574] = 105, .e[575] = 115, .e[576] = 32, .e[577] = 114, .e[578] = 101, .e[579] = 97, .e[580] = 100, .e[581] = 108, .e[582] = 97, .e[583] = 116, .e[584] = 105, .e[585] = 116, .e[586] = 117, .e[587] = 100, .e[588] = 101, .e[589] = 32, .e[590] = 112, .e[591] = 97, .e[592] = 115, .e[593] = 116, .e[594] = 32, .e[595] = 57, .e[596] = 48, .e[597] = 32, .e[598] = 111, .e[599] = 114, .e[600] = 32, .e[601] = 108, .e[602] = 111, .e[603] = 110, .e[604] = 103, .e[605] = 105, .e[606] = 116, .e[607] = 117, .e[608] = 100, .e[609] = 101, .e[610] = 32, .e[611] = 112, .e[612] = 97, .e[613] = 115, .e[614] = 116, .e[615] = 32, .e[616] = 49, .e[617] = 56, .e[618] = 48, .e[619] = 32, .e[620] = 100, .e[621] = 101, .e[622] = 103, .e[623] = 114, .e[624] = 101, .e[625] = 101, .e[626] = 115, .e[627] = 114, .e[628] = 105, .e[629] = 110, .e[630] = 103, .e[631] = 32, .e[632] = 110, .e[633] = 111, .e[634] = 116, .e[635] = 32, .e[636] = 99, .e[637] = 108, .e[638] = 111, .e[639] = 115, .e[640] = 101, .e[641] = 100, .e[642] = 32, .e[643] = 111, .e[644] = 114, .e[645] = 32, .e[646] = 117, .e[647] = 110, .e[648] = 100, .e[649] = 101, .e[650] = 114, .e[651] = 32, .e[652] = 102, .e[653] = 111, .e[654] = 117, .e[655] = 114, .e[656] = 32, .e[657] = 112, .e[658] = 111, .e[659] = 115, .e[660] = 105, .e[661] = 116, .e[662] = 105, .e[663] = 111, .e[664] = 110, .e[665] = 115, .e[666] = 110, .e[667] = 101, .e[668] = 105, .e[669] = 103, .e[670] = 104, .e[671] = 98, .e[672] = 111, .e[673] = 117, .e[674] = 114, .e[675] = 115, .e[676] = 32, .e[677] = 109, .e[678] = 111, .e[679] = 114, .e[680] = 101, .e[681] = 32, .e[682] = 116, .e[683] = 104, .e[684] = 97, .e[685] = 110, .e[686] = 32, .e[687] = 111, .e[688] = 110, .e[689] = 101, .e[690] = 32, .e[691] = 100, .e[692] = 101, .e[693] = 103, .e[694] = 114, .e[695] = 101, .e[696] = 101, .e[697] = 32, .e[698] = 97, .e[699] = 112, .e[700] = 97, .e[701] = 114, .e[702] = 116, .e[703] = 111, .e[704] = 118, .e[705] = 101, .e[706] = 114, .e[707] = 32, .e[708] = 53, .e[709] = 49, .e[710] = 50, .e[711] = 32, .e[712] = 118, .e[713] = 101, .e[714] = 114, .e[715] = 116, .e[716] = 105, .e[717] = 99, .e[718] = 101, .e[719] = 115, .e[720] = 116, .e[721] = 119, .e[722] = 111, .e[723] = 32, .e[724] = 115, .e[725] = 105, .e[726] = 100, .e[727] = 101, .e[728] = 115, .e[729] = 32, .e[730] = 115, .e[731] = 104, .e[732] = 97, .e[733] = 114, .e[734] = 101, .e[735] = 32, .e[736] = 97, .e[737] = 32, .e[738] = 112, .e[739] = 111, .e[740] = 105, .e[741] = 110, .e[742] = 116, .e[743] = 98, .e[744] = 121, .e[745] = 116, .e[746] = 101, .e[747] = 115, .e[748] = 32, .e[749] = 108, .e[750] = 101, .e[751] = 102, .e[752] = 116, .e[753] = 32, .e[754] = 97, .e[755] = 102, .e[756] = 116, .e[757] = 101, .e[758] = 114, .e[759] = 32, .e[760] = 54, .e[761] = 52, .e[762] = 32, .e[763] = 115, .e[764] = 104, .e[765] = 101, .e[766] = 101, .e[767] = 116, .e[768] = 115, .e[769] = 117, .e[770] = 110, .e[771] = 107, .e[772] = 110, .e[773] = 111, .e[774] = 119, .e[775] = 110, .e[776] = 32, .e[777] = 110, .e[778] = 117, .e[779] = 109, .e[780] = 98, .e[781] = 101, .e[782] = 114};
-    l2 = (array_uint8_t_783 *)(void *)&l1;
-    l0 = (*l2);
+    array_uint8_t_783 *l1;
+    static const array_uint8_t_783 l1_1 = {{100, 111, 110, 101, 105, 110, 115, 105, 100, 101, 111, 117, 116, 115, 105, 100, 101, 98, 111, 117, 110, 100, 97, 114, 121, 108, 105, 115, 116, 32, 111, 102, 32, 97, 32, 108, 101, 110, 103, 116, 104, 32, 110, 111, 116, 32, 97, 108, 108, 111, 119, 101, 100, 118, 101, 114, 116, 101, 120, 32, 98, 101, 121, 111, 110, 100, 32, 116, 104, 101, 32, 103, 114, 105, 100, 118, 101, 114, 116, 101, 120, 32, 97, 108, 108, 32, 122, 101, 114, 111, 115, 105, 100, 101, 39, 115, 32, 101, 110, 100, 115, 32, 105, 110, 32, 116, 104, 101, 32, 115, 97, 109, 101, 32, 100, 105, 114, 101, 99, 116, 105, 111, 110, 115, 105, 100, 101, 39, 115, 32, 101, 110, 100, 115, 32, 111, 112, 112, 111, 115, 105, 116, 101, 107, 110, 111, 119, 110, 32, 112, 111, 105, 110, 116, 32, 98, 101, 121, 111, 110, 100, 32, 116, 104, 101, 32, 103, 114, 105, 100, 32, 111, 114, 32, 97, 108, 108, 32, 122, 101, 114, 111, 107, 110, 111, 119, 110, 32, 112, 111, 105, 110, 116, 32, 111, 110, 32, 116, 104, 101, 32, 103, 114, 101, 97, 116, 32, 99, 105, 114, 99, 108, 101, 32, 111, 102, 32, 97, 32, 115, 105, 100, 101, 113, 117, 101, 114, 121, 32, 98, 101, 121, 111, 110, 100, 32, 116, 104, 101, 32, 103, 114, 105, 100, 32, 111, 114, 32, 97, 108, 108, 32, 122, 101, 114, 111, 113, 117, 101, 114, 121, 32, 111, 112, 112, 111, 115, 105, 116, 101, 32, 116, 104, 101, 32, 107, 110, 111, 119, 110, 32, 112, 111, 105, 110, 116, 110, 111, 32, 115, 101, 99, 111, 110, 100, 32, 107, 110, 111, 119, 110, 32, 112, 111, 105, 110, 116, 32, 116, 104, 97, 116, 32, 112, 97, 115, 115, 101, 115, 115, 104, 101, 101, 116, 32, 99, 117, 116, 32, 115, 104, 111, 114, 116, 119, 114, 111, 110, 103, 32, 116, 97, 103, 32, 105, 110, 32, 116, 104, 101, 32, 115, 104, 101, 101, 116, 108, 101, 110, 103, 116, 104, 32, 110, 111, 116, 32, 97, 108, 108, 111, 119, 101, 100, 32, 105, 110, 32, 116, 104, 101, 32, 115, 104, 101, 101, 116, 117, 110, 107, 110, 111, 119, 110, 32, 99, 104, 97, 114, 97, 99, 116, 101, 114, 32, 115, 101, 116, 98, 121, 116, 101, 115, 32, 97, 102, 116, 101, 114, 32, 116, 104, 101, 32, 108, 97, 115, 116, 32, 102, 105, 101, 108, 100, 98, 117, 102, 102, 101, 114, 32, 116, 111, 111, 32, 115, 104, 111, 114, 116, 32, 102, 111, 114, 32, 116, 104, 101, 32, 115, 104, 101, 101, 116, 113, 117, 101, 114, 121, 32, 111, 114, 32, 112, 111, 115, 105, 116, 105, 111, 110, 32, 99, 117, 116, 32, 111, 102, 102, 114, 101, 115, 117, 108, 116, 32, 98, 117, 102, 102, 101, 114, 32, 116, 111, 111, 32, 115, 104, 111, 114, 116, 103, 114, 105, 100, 32, 109, 105, 120, 101, 100, 32, 111, 114, 32, 117, 110, 107, 110, 111, 119, 110, 110, 111, 116, 32, 111, 110, 101, 32, 71, 101, 111, 74, 83, 79, 78, 32, 80, 111, 108, 121, 103, 111, 110, 32, 111, 102, 32, 116, 104, 101, 32, 107, 105, 110, 100, 32, 116, 104, 97, 116, 32, 105, 115, 32, 114, 101, 97, 100, 108, 97, 116, 105, 116, 117, 100, 101, 32, 112, 97, 115, 116, 32, 57, 48, 32, 111, 114, 32, 108, 111, 110, 103, 105, 116, 117, 100, 101, 32, 112, 97, 115, 116, 32, 49, 56, 48, 32, 100, 101, 103, 114, 101, 101, 115, 114, 105, 110, 103, 32, 110, 111, 116, 32, 99, 108, 111, 115, 101, 100, 32, 111, 114, 32, 117, 110, 100, 101, 114, 32, 102, 111, 117, 114, 32, 112, 111, 115, 105, 116, 105, 111, 110, 115, 110, 101, 105, 103, 104, 98, 111, 117, 114, 115, 32, 109, 111, 114, 101, 32, 116, 104, 97, 110, 32, 111, 110, 101, 32, 100, 101, 103, 114, 101, 101, 32, 97, 112, 97, 114, 116, 111, 118, 101, 114, 32, 53, 49, 50, 32, 118, 101, 114, 116, 105, 99, 101, 115, 116, 119, 111, 32, 115, 105, 100, 101, 115, 32, 115, 104, 97, 114, 101, 32, 97, 32, 112, 111, 105, 110, 116, 98, 121, 116, 101, 115, 32, 108, 101, 102, 116, 32, 97, 102, 116, 101, 114, 32, 54, 52, 32, 115, 104, 101, 101, 116, 115, 117, 110, 107, 110, 111, 119, 110, 32, 110, 117, 109, 98, 101, 114}};
+    l1 = (array_uint8_t_783 *)(void *)&l1_1;
+    l0 = (*l1);
     return l0;
 }
 

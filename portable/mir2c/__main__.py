@@ -3,8 +3,8 @@
     python3 portable/mir2c HEADER FOLDER... > spargolutta.c     the C file
     python3 portable/mir2c --exports HEADER                     the names of the calls
 
-HEADER is include/spargolutta.h: the calls that it declares are the ones exported. FOLDER has NAME.rlib of proved
-crates, as `rt check` leaves them in target/rlib, and as the toolchain has those of its own library.
+HEADER is include/spargolutta.h: the calls that it declares are the ones exported. FOLDER has the MIR of proved crates:
+NAME.json, as tools/prove leaves them in target/mir, or NAME.rlib, as the toolchain has those of its own library.
 """
 import sys
 

@@ -9,6 +9,12 @@ BYTE = {'Int': 8}
 BIG_FRAME = 1024
 
 
+def type_name(inside):
+    """The name of a declared type. One with arguments for its parameters is refused: the library has none."""
+    head, arguments = inside
+    return head['name'] if not arguments else refuse('arguments of', head['name'])
+
+
 def erase(node):
     """A type without lifetimes and mutability, which the machine does not read (Mir/Syntax.antt)."""
     if isinstance(node, list):
@@ -17,7 +23,7 @@ def erase(node):
         if 'Ref' in node:
             return {'Ref': ['', '', erase(node['Ref'][2])]}
         if 'Named' in node:
-            return {'Named': {'name': node['Named']['name'], 'lifetimes': []}}
+            return {'Named': [{'name': type_name(node['Named']), 'lifetimes': []}, []]}
         return {name: erase(part) for name, part in node.items()}
     return node
 
@@ -99,8 +105,8 @@ class Types:
             return inside[1][i]
         if name == 'Variant':
             return BYTE if i == 0 else self.shape(inside[0])[1][inside[1]][i - 1]
-        if name == 'Named' and self.shape(inside['name'])[0] == 'Fields':
-            return self.shape(inside['name'])[1][i]
+        if name == 'Named' and self.shape(type_name(inside))[0] == 'Fields':
+            return self.shape(type_name(inside))[1][i]
         return refuse('field of', name)
 
     def slots(self, symbol):
@@ -128,7 +134,7 @@ class Types:
         if name == 'Struct':
             return sum(map(self.size, inside[1]))
         if name == 'Named':
-            kind, parts = self.shape(inside['name'])
+            kind, parts = self.shape(type_name(inside))
             lists = [parts] if kind == 'Fields' else parts
             return max(sum(map(self.size, fields)) for fields in lists) + 8
         return 8
@@ -182,14 +188,14 @@ def struct_type(types, inside):
 @rule('type', 'Named')
 def named_type(types, inside):
     """A declared struct; or an enum, its tag and then the slots for its variants' fields."""
-    kind, parts = types.shape(inside['name'])
+    kind, parts = types.shape(type_name(inside))
 
     def text():
         if kind == 'Fields':
             return f'struct {{ {members([types.c(field) for field in parts])} }}'
         if kind != 'Variants':
             refuse('shape', kind)
-        slots = [types.c(ty) for ty in types.slots(inside['name'])[0]]
+        slots = [types.c(ty) for ty in types.slots(type_name(inside))[0]]
         fields = ['uint8_t tag'] + [declare(slot, f's{i}') for i, slot in enumerate(slots)]
         return f'struct {{ {"; ".join(fields)}; }}'
-    return types.declared({'Named': inside}, 'type_' + identifier(inside['name']), text)
+    return types.declared({'Named': inside}, 'type_' + identifier(type_name(inside)), text)

@@ -29,6 +29,9 @@ def parameter(text):
 
 def symbol_of(program, name):
     """The function of the crates of the C boundary that has the call's name."""
+    for crate in BOUNDARY:
+        if crate not in program.functions.crates:
+            program.functions.read(crate)
     found = [s for s in program.functions if s.split('::')[0] in BOUNDARY and s.split('::')[-1] == name]
     return found[0] if len(found) == 1 else refuse('functions named', name, found)
 

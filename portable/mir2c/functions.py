@@ -2,7 +2,7 @@
 import re
 
 import statements
-from c_types import BIG_FRAME, declare, identifier
+from c_types import BIG_FRAME, declare, identifier, type_name
 from rules import refuse, split
 
 
@@ -93,7 +93,7 @@ class Function:
         """The parameter that a loop would ask about in each turn: an enum of two bare variants, the grid say."""
         for name, ty in self.parameters():
             kind, inside = split(ty)
-            if kind == 'Named' and self.types.shape(inside['name']) == ('Variants', [[], []]):
+            if kind == 'Named' and self.types.shape(type_name(inside)) == ('Variants', [[], []]):
                 return name
         return None
 

@@ -2,7 +2,7 @@
 import struct
 from collections import namedtuple
 
-from c_types import declare, erase, is_pointer, width
+from c_types import declare, erase, is_pointer, type_name, width
 from rules import apply, refuse, rule, split
 
 # An expression: its C text, which no operator around it takes apart, and its MIR type.
@@ -33,11 +33,15 @@ def place(function, node):
 
 @rule('step', 'Deref')
 def deref(function, x, ty):
-    """Through a reference, or through a raw pointer, which is first made one to what is read there: numbers alone,
-    whose size is the same in C as in MIR, so that the sums of bytes that MIR has in it are right."""
+    """Through a reference, and through one to an array also to its first element, where a slice of it begins. Or
+    through a raw pointer, which is first made one to what is read there: numbers alone, whose size is the same in C as
+    in MIR, so that the sums of bytes that MIR has in it are right."""
     if x.type == 'Ptr':
         width(ty, 'behind a raw pointer')
         return Typed(f'(*({declare(function.types.c(ty), "*")})(void *){x.text})', ty)
+    name, inside = split(split(x.type)[1][2])
+    if name == 'Array' and erase(inside[0]) == erase(ty):
+        return Typed(f'(*{x.text}).e[0]', ty)
     same(split(x.type)[1][2], ty, function.name)
     return Typed(f'(*{x.text})', ty)
 
@@ -55,7 +59,7 @@ def field(function, x, i):
 @rule('step', 'Variant')
 def variant(function, x, n):
     """The same place, seen as one of its variants; nothing is read."""
-    return Typed(x.text, {'Variant': [split(x.type)[1]['name'], n]})
+    return Typed(x.text, {'Variant': [type_name(split(x.type)[1]), n]})
 
 
 def operand(function, node):

@@ -7,34 +7,43 @@ import exports
 from c_types import Types
 from functions import Function
 from rules import refuse, split
+from statements import called
 
 # A function of fewer assignments and calls than this becomes part of its callers.
 INLINE_MOST = 250
 HERE = os.path.dirname(os.path.abspath(__file__))
 
 
-def read_functions(folders):
-    """All functions of the proved crates: NAME.rlib/toolchain/mir.json is what is proved and compiled."""
-    functions = {}
-    for folder in folders:
-        for crate in sorted(os.listdir(folder)):
-            path = os.path.join(folder, crate, 'toolchain', 'mir.json')
-            if crate.endswith('.rlib') and os.path.exists(path):
-                with open(path, encoding='utf-8') as file:
-                    for name, function in json.load(file):
-                        if name in functions:
-                            refuse('two functions named', name)
-                        functions[name] = function
-    return functions
+class Functions(dict):
+    """The functions of the proved crates, by name. A crate's MIR is read when one of its functions is asked for first:
+    mir.json is what is proved and compiled."""
+
+    def __init__(self, folders):
+        super().__init__()
+        self.folders, self.crates = folders, set()
+
+    def __missing__(self, name):
+        self.read(name.split('::')[0])
+        return self.get(name) or refuse('no function', name)
+
+    def read(self, crate):
+        places = [os.path.join(folder, file) for folder in self.folders
+                  for file in (crate + '.json', os.path.join(crate + '.rlib', 'toolchain', 'mir.json'))]
+        found = [path for path in places if os.path.exists(path)]
+        if crate in self.crates or len(found) != 1:
+            refuse('crates named', crate, found)
+        self.crates.add(crate)
+        with open(found[0], encoding='utf-8') as file:
+            self.update(json.load(file))
 
 
 def callees(function):
-    return [split(node['Call'][0])[1] for node in function['body'] if isinstance(node, dict) and 'Call' in node]
+    return [called(node['Call'][0]) for node in function['body'] if isinstance(node, dict) and 'Call' in node]
 
 
 class Program:
     def __init__(self, header, folders):
-        self.functions = read_functions(folders)
+        self.functions = Functions(folders)
         self.types = Types()
         self.prototypes = exports.prototypes(header)
         self.order, self.declared_first = [], set()

@@ -1,7 +1,7 @@
 """The rules of the translation, one small function for each constructor of MIR, found by class and name.
 
-The classes are those of logic/Mir/Syntax.antt: type, step, operand, op2, op1, rvalue, statement. A constructor without
-a rule is refused: nothing is guessed.
+The classes are those of logic/Mir/Syntax.antt: type, step, operand, op2, op1, rvalue, constant, statement. A
+constructor without a rule is refused: nothing is guessed.
 """
 import json
 

@@ -1,5 +1,5 @@
 """MIR's rvalues and statements. A body is a list in prefix order: a statement, then those that it holds."""
-from c_types import length
+from c_types import length, type_name
 from operations import op1, op2
 from places import converted, operand, place, same
 from rules import apply, refuse, rule, split
@@ -39,7 +39,7 @@ def aggregate(function, to, node):
     elif name == 'Struct':
         names, wanted = [f'f{i}' for i in range(len(inside[1]))], inside[1]
     else:
-        names, wanted = declared_fields(function.types, inside['name'], node)
+        names, wanted = declared_fields(function.types, type_name(inside), node)
     values = [converted(function, operand(function, part), ty) for part, ty in zip(node, wanted, strict=True)]
     parts = ', '.join(f'.{name} = {value}' for name, value in zip(names, values, strict=True))
     function.put(f'{to.text} = ({function.types.c(to.type)}){{{parts}}};')
@@ -58,7 +58,7 @@ def declared_fields(types, symbol, node):
 @rule('rvalue', 'Repeat')
 def repeat(function, to, node):
     """An array of equal elements; the operand is a constant here, so that it does not matter when it is evaluated."""
-    x, count = operand(function, node[0]), node[1]
+    x, count = operand(function, node[0]), length(node[1])
     name, inside = split(to.type)
     if name != 'Array' or length(inside[1]) != count or 'Copy' in node[0]:
         refuse('repeat', node)
@@ -102,12 +102,38 @@ def assign(function, at, node):
     return at + 1
 
 
+@rule('statement', 'LendStatic')
+def lend_static(function, at, node):
+    """A reference to a constant, which lies in memory that is never written. C's static objects are such."""
+    to, ty, value = place(function, node[0]), node[1], apply('constant', node[2], node[1])
+    same(split(to.type)[1][2], ty, function.name)
+    name = f'l{node[0]["local"]}_{at}'
+    function.put(f'static const {function.types.c(ty)} {name} = {value};')
+    function.put(f'{to.text} = ({function.types.c(to.type)})(void *)&{name};')
+    return at + 1
+
+
+@rule('constant', 'Ints')
+def ints(ty, node):
+    """An array of numbers, by their bits."""
+    name, inside = split(ty)
+    if name != 'Array' or inside[0] != {'Int': node['width']} or length(inside[1]) != len(node['values']):
+        refuse('constant', ty)
+    return '{{' + ', '.join(f'UINT64_C({n})' if n >= 2 ** 31 else str(n) for n in node['values']) + '}}'
+
+
+def called(callee):
+    """The function that a call names. One that takes types or dictionaries is refused: the library has none."""
+    how, inside = split(callee)
+    if how != 'Fn' or any(inside[1].values()):
+        refuse('call', callee)
+    return inside[0]
+
+
 @rule('statement', 'Call')
 def call(function, at, node):
     """A direct call, the only kind; a unit is not passed on."""
-    how, callee = split(node[0])
-    if how != 'Direct':
-        refuse('call', how)
+    callee = called(node[0])
     wanted = [local['ty'] for local in function.callee(callee)['locals'][:1 + len(node[1])]]
     values = [operand(function, part) for part in node[1]]
     if len(values) != function.callee(callee)['params']:
