@@ -100,9 +100,10 @@ CARGO := CARGO_TARGET_DIR='$(CURDIR)/target/cargo' cargo
 # A line a crate and an edit, as they come. rt's last line, 'N passed, 0 failed', is held back until everything else has
 # passed too. target/proved says when this run of rt began, and by which toolchain: tools/prove takes what it proved.
 test check:
-	@$(TOOLCHAIN); log=$$(mktemp); mkdir -p target; rm -f target/proved; rt version > target/begun; \
+	@$(TOOLCHAIN); log=$$(mktemp); mkdir -p target; rt version > target/begun; \
 	n=$$(cat <(grep '^[a-z]' crates.txt) <(ls crates/*/must-fail/*.edit) | wc -l); \
-	rt ci | tee "$$log" | tests/progress $$n || { echo "The whole log: $$log"; tail -n 40 "$$log"; exit 1; }; \
+	rt ci | tee "$$log" | tests/progress $$n \
+	|| { rm -f target/proved; echo "The whole log: $$log"; tail -n 40 "$$log"; exit 1; }; \
 	tests/edits "$$log"; \
 	mv target/begun target/proved; \
 	$(MAKE) --no-print-directory c-check host-test digest octant-check tool-test; \
