@@ -1,3 +1,4 @@
+-- `calls::read`: the buffer keeps its length while a read is tried again.
 use Rattle.std.proofs.Common.{◌-◌, ◌≡◌, length}
 use Rattle.zone_judge.proofs.calls.read.Given as goal
 

@@ -1,3 +1,4 @@
+-- `calls::write` ends: the tries are counted.
 use Rattle.std.proofs.Common.{◌-◌}
 use Rattle.zone_judge.proofs.calls.write.Given as goal
 
