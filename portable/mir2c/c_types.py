@@ -2,6 +2,7 @@
 import json
 import re
 
+from generics import put_in, suffix
 from rules import apply, refuse, rule, split
 
 BYTE = {'Int': 8}
@@ -10,9 +11,9 @@ BIG_FRAME = 1024
 
 
 def type_name(inside):
-    """The name of a declared type. One with arguments for its parameters is refused: the library has none."""
+    """The name of a declared type with its arguments."""
     head, arguments = inside
-    return head['name'] if not arguments else refuse('arguments of', head['name'])
+    return ('tuple' if head['name'].startswith('(') else head['name']) + suffix(arguments)
 
 
 def erase(node):
@@ -23,7 +24,8 @@ def erase(node):
         if 'Ref' in node:
             return {'Ref': ['', '', erase(node['Ref'][2])]}
         if 'Named' in node:
-            return {'Named': [{'name': type_name(node['Named']), 'lifetimes': []}, []]}
+            head, arguments = node['Named']
+            return {'Named': [{'name': head['name'], 'lifetimes': []}, erase(arguments)]}
         return {name: erase(part) for name, part in node.items()}
     return node
 
@@ -37,7 +39,8 @@ def declare(c_type, name):
 
 
 def members(c_types):
-    return ' '.join(declare(c_type, f'f{i}') + ';' for i, c_type in enumerate(c_types))
+    """The fields of a struct. C has no unit, which is None here, and no empty struct."""
+    return ' '.join(declare(c_type, f'f{i}') + ';' for i, c_type in enumerate(c_types) if c_type) or 'uint8_t empty;'
 
 
 def length(count):
@@ -77,13 +80,21 @@ class Types:
             if self.shapes.setdefault(one['name'], shape) != shape:
                 refuse('two shapes for', one['name'])
 
-    def shape(self, name):
-        """('Fields', types) or ('Variants', lists of types)."""
-        return split(self.shapes[name])
+    def shape(self, inside):
+        """('Fields', types) or ('Variants', lists of types) of a declared type at its arguments."""
+        head, arguments = inside
+        if head['name'] not in self.shapes:
+            refuse('no shape of', head['name'])
+        shape = self.shapes[head['name']]
+        return split(put_in(shape, erase(arguments), []) if arguments else shape)
 
     def c(self, ty):
         """The C type, declared."""
         return apply('type', ty, self)
+
+    def fields(self, types):
+        """The C types of fields. A unit is nothing in C."""
+        return [None if ty == 'Unit' else self.c(ty) for ty in types]
 
     def declared(self, ty, base, make):
         """The name of a type that needs a declaration; make() gives its text up to the name."""
@@ -105,22 +116,22 @@ class Types:
             return inside[1][i]
         if name == 'Variant':
             return BYTE if i == 0 else self.shape(inside[0])[1][inside[1]][i - 1]
-        if name == 'Named' and self.shape(type_name(inside))[0] == 'Fields':
-            return self.shape(type_name(inside))[1][i]
+        if name == 'Named' and self.shape(inside)[0] == 'Fields':
+            return self.shape(inside)[1][i]
         return refuse('field of', name)
 
-    def slots(self, symbol):
+    def slots(self, inside):
         """The fields of an enum's C struct behind the tag, and for each variant the slot of each of its fields.
         Variants share slots of one type: a compiler then keeps an enum in registers, which it does not of a union."""
         slots, places = [], []
-        for fields in self.shape(symbol)[1]:
+        for fields in self.shape(inside)[1]:
             free, own = list(range(len(slots))), []
             for ty in fields:
                 slot = next((i for i in free if slots[i] == ty), None)
-                if slot is None:
+                if slot is None and ty != 'Unit':
                     slot = len(slots)
                     slots.append(ty)
-                else:
+                elif slot is not None:
                     free.remove(slot)
                 own.append(slot)
             places.append(own)
@@ -134,10 +145,10 @@ class Types:
         if name == 'Struct':
             return sum(map(self.size, inside[1]))
         if name == 'Named':
-            kind, parts = self.shape(type_name(inside))
+            kind, parts = self.shape(inside)
             lists = [parts] if kind == 'Fields' else parts
-            return max(sum(map(self.size, fields)) for fields in lists) + 8
-        return 8
+            return max((sum(map(self.size, fields)) for fields in lists), default=0) + 8
+        return 0 if ty == 'Unit' else 8
 
 
 # ---- each type
@@ -180,7 +191,7 @@ def array_type(types, inside):
 def struct_type(types, inside):
     """A tuple, or a slice. Fields are f0, f1 and so on."""
     symbol, fields = inside
-    c_fields = [types.c(field) for field in fields]
+    c_fields = types.fields(fields)
     base = 'slice_' + identifier(c_fields[0]).strip('_') if symbol == '&[]' else 'type_' + identifier(symbol)
     return types.declared({'Struct': inside}, base, lambda: f'struct {{ {members(c_fields)} }}')
 
@@ -188,14 +199,14 @@ def struct_type(types, inside):
 @rule('type', 'Named')
 def named_type(types, inside):
     """A declared struct; or an enum, its tag and then the slots for its variants' fields."""
-    kind, parts = types.shape(type_name(inside))
+    kind, parts = types.shape(inside)
 
     def text():
         if kind == 'Fields':
-            return f'struct {{ {members([types.c(field) for field in parts])} }}'
+            return f'struct {{ {members(types.fields(parts))} }}'
         if kind != 'Variants':
             refuse('shape', kind)
-        slots = [types.c(ty) for ty in types.slots(type_name(inside))[0]]
+        slots = [types.c(ty) for ty in types.slots(inside)[0]]
         fields = ['uint8_t tag'] + [declare(slot, f's{i}') for i, slot in enumerate(slots)]
         return f'struct {{ {"; ".join(fields)}; }}'
     return types.declared({'Named': inside}, 'type_' + identifier(type_name(inside)), text)

@@ -32,7 +32,7 @@ def symbol_of(program, name):
     for crate in BOUNDARY:
         if crate not in program.functions.crates:
             program.functions.read(crate)
-    found = [s for s in program.functions if s.split('::')[0] in BOUNDARY and s.split('::')[-1] == name]
+    found = [s for s in program.functions.sources if s.split('::')[0] in BOUNDARY and s.split('::')[-1] == name]
     return found[0] if len(found) == 1 else refuse('functions named', name, found)
 
 

@@ -2,7 +2,7 @@
 import re
 
 import statements
-from c_types import BIG_FRAME, declare, identifier, type_name
+from c_types import BIG_FRAME, declare, identifier
 from rules import refuse, split
 
 
@@ -93,7 +93,7 @@ class Function:
         """The parameter that a loop would ask about in each turn: an enum of two bare variants, the grid say."""
         for name, ty in self.parameters():
             kind, inside = split(ty)
-            if kind == 'Named' and self.types.shape(type_name(inside)) == ('Variants', [[], []]):
+            if kind == 'Named' and self.types.shape(inside) == ('Variants', [[], []]):
                 return name
         return None
 
@@ -113,22 +113,50 @@ class Function:
         return [self.head(), '{'] + lines + ['}', '']
 
     def frame(self):
-        """The bytes of its locals: those in memory are large, the others are in registers mostly."""
-        return sum(self.types.size(local['ty']) for local in self.program.functions[self.name]['locals'])
+        """The bytes of its locals in memory. The others are in registers mostly, but for arrays."""
+        return sum(self.types.size(local['ty']) for local in self.program.functions[self.name]['locals']
+                   if local['home'] != 'ValueLocal' or split(local['ty'])[0] == 'Array')
 
-    def drop_sums(self):
-        """Without the sums that were read by a pointer alone, which now goes without them."""
-        sums = [re.fullmatch(r' *(l\d+) = \(l\d+ \+ UINT64_C\(\d+\)\);', line) for line in self.lines]
+    def drop_unread(self):
+        """Without what no line reads: the sums of which a pointer made use and goes without them now, and copies, as of
+        a result that `?` gives to nobody."""
+        idle = r' *(l\d+) = (?:\(l\d+ \+ UINT64_C\(\d+\)\)|l\d+(?:\.\w+)*);'
+        idle = [re.fullmatch(idle, line) for line in self.lines]
         read = '\n'.join(re.sub(r'^ *l\d+ = ', '', line) for line in self.lines)
         read = set(re.findall(r'\bl\d+\b', read))
-        self.lines = [line for line, a_sum in zip(self.lines, sums) if not a_sum or a_sum[1] in read]
+        lines = [line for line, one in zip(self.lines, idle) if not one or one[1] in read]
+        if lines != self.lines:
+            self.lines = lines
+            self.drop_unread()
+
+    def hand_back(self):
+        """Without a local whose only reader is `l0 = local`, as a match leaves one: its arms set the result itself."""
+        for line in self.lines:
+            copy = re.fullmatch(r' *l0 = (l\d+);', line)
+            if copy and self.is_value(copy[1]) and self.is_only_set(copy[1], line) and self.returns_at_once(line):
+                self.lines = [re.sub(rf'\b{copy[1]}\b', 'l0', one) for one in self.lines if one is not line]
+                return self.hand_back()
+
+    def is_only_set(self, local, copy):
+        """Whether each line but this copy that names the local, not a parameter, gives it a value."""
+        count = self.program.functions[self.name]['params']
+        named = [line for line in self.lines if re.search(rf'\b{local}\b', line) and line is not copy]
+        return int(local[1:]) > count and all(re.fullmatch(rf' *{local}(\.\w+)* = ((?!\b{local}\b).)*', line)
+                                              for line in named)
+
+    def returns_at_once(self, copy):
+        """Whether the result, once set, is set on or returned, but for this copy."""
+        after = zip(self.lines, self.lines[1:] + [''])
+        return all(re.match(r' *(l0(\.\w+)* = |return l0;)', following)
+                   for line, following in after if re.match(r' *l0\b', line) and line is not copy)
 
     def text(self):
         """The whole definition. Locals that no line names are left out."""
         function = self.program.functions[self.name]
         if statements.statement(self, 0) != len(self.body):
             refuse(self.name, 'has more than one body')
-        self.drop_sums()
+        self.drop_unread()
+        self.hand_back()
         named = set(re.findall(r'\bl\d+\b', '\n'.join(self.lines)))
         locals_ = [f'    {declare(self.types.c(local["ty"]), f"l{i}")};' for i, local in enumerate(function['locals'])
                    if not 1 <= i <= function['params'] and f'l{i}' in named and local['ty'] != 'Unit']

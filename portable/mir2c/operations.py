@@ -25,7 +25,8 @@ def wrapped(symbol, x, y):
 
 def signed(x):
     """The number that the bits mean in two's complement, by the prelude's function."""
-    return f'signed{width(x.type)}({x.text})'
+    bits = width(x.type)
+    return f'signed{bits}({x.text})' if bits in (32, 64) else refuse('sign of', bits, 'bits')
 
 
 def ordered(symbol, sign, x, y):
@@ -71,17 +72,17 @@ def op2(function, node, x, y):
     return apply('op2', node, function, x, y)
 
 
-@rule('op2', 'Add')
+@rule('op2', 'Add', 'WrapAdd')
 def add(_, x, y, sign):
     return wrapped('+', x, y)
 
 
-@rule('op2', 'Sub')
+@rule('op2', 'Sub', 'WrapSub')
 def sub(_, x, y, sign):
     return wrapped('-', x, y)
 
 
-@rule('op2', 'Mul')
+@rule('op2', 'Mul', 'WrapMul')
 def mul(_, x, y, sign):
     """A product with a constant power of two is a shift: by that gcc knows big-endian bytes when it sees them."""
     factor = re.fullmatch(r'UINT(32|64)_C\((\d+)\)', y.text)

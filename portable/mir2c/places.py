@@ -2,7 +2,7 @@
 import struct
 from collections import namedtuple
 
-from c_types import declare, erase, is_pointer, type_name, width
+from c_types import declare, erase, is_pointer, width
 from rules import apply, refuse, rule, split
 
 # An expression: its C text, which no operator around it takes apart, and its MIR type.
@@ -59,7 +59,7 @@ def field(function, x, i):
 @rule('step', 'Variant')
 def variant(function, x, n):
     """The same place, seen as one of its variants; nothing is read."""
-    return Typed(x.text, {'Variant': [type_name(split(x.type)[1]), n]})
+    return Typed(x.text, {'Variant': [split(x.type)[1], n]})
 
 
 def operand(function, node):
@@ -94,6 +94,19 @@ def int_constant(_, node):
     if bits not in (8, 16, 32, 64) or not 0 <= value < 2 ** bits:
         refuse('constant', node)
     return Typed({32: f'UINT32_C({value})', 64: f'UINT64_C({value})'}.get(bits, str(value)), {'Int': bits})
+
+
+@rule('operand', 'SizeOf')
+def size_of(function, ty):
+    """Of a number alone, which is as large in C as in MIR."""
+    return int_constant(function, {'width': 64, 'value': width(ty, 'of which the size is asked') // 8})
+
+
+@rule('operand', 'NumOf')
+def number_of(function, node):
+    """The number that an instance has for a parameter."""
+    bits, number = node
+    return int_constant(function, {'width': bits, 'value': number['Const']})
 
 
 @rule('operand', 'Float')

@@ -34,7 +34,8 @@
 #pragma STDC FP_CONTRACT OFF
 #endif
 
-/* Big frames stay apart, and small functions become part of their callers, where size is not what counts. */
+/* Big frames stay apart, and small functions become part of their callers, where size is not what counts. In a browser
+ * it counts most. */
 #if defined(__GNUC__)
 #define APART __attribute__((noinline))
 #else
@@ -42,10 +43,21 @@
 #endif
 #if defined(__GNUC__) && defined(__OPTIMIZE__) && !defined(__OPTIMIZE_SIZE__) && !defined(__wasm__)
 #define INLINE inline __attribute__((always_inline))
-#else
+#elif !defined(__wasm__)
 #define INLINE inline
+#else
+#define INLINE
 #endif
 
+/* unreachable */
+/* What is proved not to be reached. */
+#if defined(__GNUC__)
+#define UNREACHABLE __builtin_unreachable()
+#else
+#define UNREACHABLE for (;;) {}
+#endif
+
+/* unreachable */
 /* The number that bits mean in two's complement, without what C leaves to the machine; compilers make nothing of it. */
 static inline int32_t signed32(uint32_t bits)
 {

@@ -1,44 +1,25 @@
 """The whole program: the functions that the exported calls reach, callees first, in one file."""
-import json
 import os
 import sys
 
 import exports
 from c_types import Types
 from functions import Function
-from rules import refuse, split
-from statements import called
+from instances import Functions
+from rules import split
 
 # A function of fewer assignments and calls than this becomes part of its callers.
 INLINE_MOST = 250
+TOOLCHAIN = 'core::'
 HERE = os.path.dirname(os.path.abspath(__file__))
 
 
-class Functions(dict):
-    """The functions of the proved crates, by name. A crate's MIR is read when one of its functions is asked for first:
-    mir.json is what is proved and compiled."""
-
-    def __init__(self, folders):
-        super().__init__()
-        self.folders, self.crates = folders, set()
-
-    def __missing__(self, name):
-        self.read(name.split('::')[0])
-        return self.get(name) or refuse('no function', name)
-
-    def read(self, crate):
-        places = [os.path.join(folder, file) for folder in self.folders
-                  for file in (crate + '.json', os.path.join(crate + '.rlib', 'toolchain', 'mir.json'))]
-        found = [path for path in places if os.path.exists(path)]
-        if crate in self.crates or len(found) != 1:
-            refuse('crates named', crate, found)
-        self.crates.add(crate)
-        with open(found[0], encoding='utf-8') as file:
-            self.update(json.load(file))
-
-
 def callees(function):
-    return [called(node['Call'][0]) for node in function['body'] if isinstance(node, dict) and 'Call' in node]
+    return [node['Call'][0] for node in function['body'] if isinstance(node, dict) and 'Call' in node]
+
+
+def is_copy(node):
+    return 'Assign' in node and split(node['Assign'][1])[0] == 'Opd'
 
 
 class Program:
@@ -61,8 +42,10 @@ class Program:
             self.order.append(name)
 
     def weigh(self, name):
-        """How many assignments and calls a function has, with those of the callees that become part of it."""
-        own = sum(1 for node in self.functions[name]['body'] if split(node)[0] in ('Assign', 'Call'))
+        """How many assignments and calls a function has, with those of the callees that become part of it. Not counted
+        are copies in the toolchain's library, which hands values from one small function to the next."""
+        counted = [node for node in self.functions[name]['body'] if split(node)[0] in ('Assign', 'Call')]
+        own = len([node for node in counted if not (name.startswith(TOOLCHAIN) and is_copy(node))])
         within = [self.weights.get(callee, INLINE_MOST) for callee in callees(self.functions[name])]
         weight = own + sum(weight for weight in within if weight < INLINE_MOST)
         apart = name in self.declared_first or Function(name, self).is_big()
@@ -81,6 +64,7 @@ class Program:
             self.visit(exports.symbol_of(self, prototype.name), frozenset())
         for name in self.order:
             self.types.learn(self.functions[name]['types'])
+        for name in self.order:
             self.weigh(name)
         heads = [Function(name, self).head() + ';' for name in sorted(self.declared_first)]
         bodies = [line for name in self.order for line in Function(name, self).text()]
@@ -88,4 +72,6 @@ class Program:
         with open(os.path.join(HERE, 'prelude.c'), encoding='utf-8') as file:
             prelude, lent = file.read().split('/* types */\n')
         types, functions = '\n'.join(self.types.declarations), '\n'.join(heads + [''] + bodies + calls)
+        before, unreachable, after = prelude.split('/* unreachable */\n')
+        prelude = before + unreachable * ('UNREACHABLE;' in functions) + after
         return prelude + types + '\n' + lent + '\n' + functions

@@ -1,5 +1,6 @@
 """MIR's rvalues and statements. A body is a list in prefix order: a statement, then those that it holds."""
-from c_types import length, type_name
+from c_types import length
+from constants import held, initializer
 from operations import op1, op2
 from places import converted, operand, place, same
 from rules import apply, refuse, rule, split
@@ -33,26 +34,9 @@ def address(function, to, node):
 @rule('rvalue', 'Aggregate')
 def aggregate(function, to, node):
     """A struct of these fields, an array of these elements, or an enum of this tag and then these fields."""
-    name, inside = split(to.type)
-    if name == 'Array':
-        names, wanted = [f'e[{i}]' for i in range(length(inside[1]))], [inside[0]] * length(inside[1])
-    elif name == 'Struct':
-        names, wanted = [f'f{i}' for i in range(len(inside[1]))], inside[1]
-    else:
-        names, wanted = declared_fields(function.types, type_name(inside), node)
+    names, wanted = held(function.types, to.type, node)
     values = [converted(function, operand(function, part), ty) for part, ty in zip(node, wanted, strict=True)]
-    parts = ', '.join(f'.{name} = {value}' for name, value in zip(names, values, strict=True))
-    function.put(f'{to.text} = ({function.types.c(to.type)}){{{parts}}};')
-
-
-def declared_fields(types, symbol, node):
-    """The C names and the types of what an aggregate of a declared type holds, an enum's tag first."""
-    kind, parts = types.shape(symbol)
-    if kind == 'Fields':
-        return [f'f{i}' for i in range(len(parts))], parts
-    tag = split(node[0])
-    n = tag[1]['value'] if tag[0] == 'Int' else refuse('tag', node[0])
-    return ['tag'] + [f's{slot}' for slot in types.slots(symbol)[1][n]], [{'Int': 8}] + parts[n]
+    function.put(f'{to.text} = ({function.types.c(to.type)}){initializer(names, values, wanted)};')
 
 
 @rule('rvalue', 'Repeat')
@@ -105,7 +89,7 @@ def assign(function, at, node):
 @rule('statement', 'LendStatic')
 def lend_static(function, at, node):
     """A reference to a constant, which lies in memory that is never written. C's static objects are such."""
-    to, ty, value = place(function, node[0]), node[1], apply('constant', node[2], node[1])
+    to, ty, value = place(function, node[0]), node[1], apply('constant', node[2], function.types, node[1])
     same(split(to.type)[1][2], ty, function.name)
     name = f'l{node[0]["local"]}_{at}'
     function.put(f'static const {function.types.c(ty)} {name} = {value};')
@@ -113,27 +97,10 @@ def lend_static(function, at, node):
     return at + 1
 
 
-@rule('constant', 'Ints')
-def ints(ty, node):
-    """An array of numbers, by their bits."""
-    name, inside = split(ty)
-    if name != 'Array' or inside[0] != {'Int': node['width']} or length(inside[1]) != len(node['values']):
-        refuse('constant', ty)
-    return '{{' + ', '.join(f'UINT64_C({n})' if n >= 2 ** 31 else str(n) for n in node['values']) + '}}'
-
-
-def called(callee):
-    """The function that a call names. One that takes types or dictionaries is refused: the library has none."""
-    how, inside = split(callee)
-    if how != 'Fn' or any(inside[1].values()):
-        refuse('call', callee)
-    return inside[0]
-
-
 @rule('statement', 'Call')
 def call(function, at, node):
     """A direct call, the only kind; a unit is not passed on."""
-    callee = called(node[0])
+    callee = node[0]
     wanted = [local['ty'] for local in function.callee(callee)['locals'][:1 + len(node[1])]]
     values = [operand(function, part) for part in node[1]]
     if len(values) != function.callee(callee)['params']:
@@ -149,6 +116,13 @@ def call(function, at, node):
 @rule('statement', 'Return')
 def return_(function, at, _):
     function.put('return;' if function.local(0) == 'Unit' else 'return l0;')
+    return at + 1
+
+
+@rule('statement', 'Unreachable')
+def unreachable(function, at, _):
+    """Where the machine is stuck; that it does not come here is proved."""
+    function.put('UNREACHABLE;')
     return at + 1
 
 
@@ -169,10 +143,10 @@ def if_(function, at, node):
 
 @rule('statement', 'Switch')
 def switch(function, at, node):
-    """The machine is stuck where no key matches, which is proved not to happen: the last arm takes what is left."""
+    """The last arm takes what is left. It is the default, or else the machine is stuck where no key matches, which is
+    proved not to happen."""
     value, arms, default = node
-    if default:
-        refuse('switch with a default')
+    arms = arms + [[]] * default
     function.put(f'switch ({operand(function, value).text}) {{')
     at += 1
     for n, keys in enumerate(arms):

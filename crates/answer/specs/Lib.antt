@@ -1,3 +1,4 @@
+pub mod Refusal
 pub mod Search
 pub mod Answer
 pub mod Chain

@@ -1,13 +1,11 @@
 -- Searching, counting and summing over the numbers i, i + 1, .. i + k - 1. Defined, in order: first_from, count_from,
 -- sum_from. They go up from i, as a loop does. Laws: proofs/Laws/Search.
-use Rattle.std.specs.Prelude.{Bool, cond, ℕ, zero, suc, ℤ, pos, ◌+ℤ◌}
-use Rattle.answer.specs.declared.Found.{Found}
-use Rattle.answer.specs.declared.Found.TheVariants.{Nothing, At}
+use Rattle.std.specs.Prelude.{Bool, cond, ℕ, zero, suc, ℤ, pos, ◌+ℤ◌, Option, Some, None}
 
 -- The lowest of k numbers from i on at which the test holds.
-unfoldable pub first_from : (ℕ → Bool) → ℕ → ℕ → Found
-first_from test i zero = Nothing
-first_from test i (suc k) = cond (test i) (At i) (first_from test (suc i) k)
+unfoldable pub first_from : (ℕ → Bool) → ℕ → ℕ → Option ℕ
+first_from test i zero = None
+first_from test i (suc k) = cond (test i) (Some i) (first_from test (suc i) k)
 
 -- At how many of k numbers from i on the test holds.
 unfoldable pub count_from : (ℕ → Bool) → ℕ → ℕ → ℕ

@@ -1,14 +1,12 @@
 -- The promised theorems of this crate, as statements (document 02, P9). Stated, in order: SharedDecided, BeyondDecided
 -- (the tests by signs say just what sharing means); Offends, BasinTold (the answer names the first offending pair, and
--- is Simple only where there is none). Their proofs are in proofs/Claims.
-use Rattle.std.specs.Prelude.{◌≡◌, true, false, List, ℕ, ◌+◌, ◌<◌, ℤ}
+-- names none only where there is none). Their proofs are in proofs/Claims.
+use Rattle.std.specs.Prelude.{◌≡◌, true, false, List, ℕ, ◌+◌, ◌<◌, ℤ, Ok, None, Some}
 use Rattle.sphere.specs.declared.point.Point.{Point}
 use Rattle.sphere.specs.Point.{is_null}
 use Rattle.sphere.specs.Direction.{is_parallel, is_same_direction}
 use Rattle.sphere.specs.OnEdge.{OnEdge}
-use Rattle.answer.specs.declared.Check.TheVariants.{Passed}
 use Rattle.polygon.specs.Vertices.{vertices_count, start_of, end_of}
-use Rattle.basin.specs.declared.profile.Basin.TheVariants.{Simple, Sharing}
 use Rattle.basin.specs.Shared.{Shared, SharedBeyond, is_shared, is_shared_beyond}
 use Rattle.basin.specs.Basin.{basin_check, basin_of}
 
@@ -43,10 +41,10 @@ pub record Offends (vs : List ℤ) (i j : ℕ) : Type 0 where
 -- Where none of 10 to 14, 28 and 34 holds: no pair offends; or the pair named does, no pair with a lower first edge
 -- does, nor one with the same first edge and a lower second.
 pub record Told (g : ℕ) (vs : List ℤ) : Type 0 where
-  pub simple : basin_of g vs ≡ Simple → (i j : ℕ) → Offends vs i j → ⊥
-  pub sharing : (i j : ℕ) → basin_of g vs ≡ Sharing i j → Offends vs i j
-  pub lower_first : (i j : ℕ) → basin_of g vs ≡ Sharing i j → (h k : ℕ) → h < i → Offends vs h k → ⊥
-  pub lower_second : (i j : ℕ) → basin_of g vs ≡ Sharing i j → (k : ℕ) → k < j → Offends vs i k → ⊥
+  pub simple : basin_of g vs ≡ Ok None → (i j : ℕ) → Offends vs i j → ⊥
+  pub sharing : (i j : ℕ) → basin_of g vs ≡ Ok (Some (i, j)) → Offends vs i j
+  pub lower_first : (i j : ℕ) → basin_of g vs ≡ Ok (Some (i, j)) → (h k : ℕ) → h < i → Offends vs h k → ⊥
+  pub lower_second : (i j : ℕ) → basin_of g vs ≡ Ok (Some (i, j)) → (k : ℕ) → k < j → Offends vs i k → ⊥
 
 abbrev pub BasinTold : Type 0
-BasinTold = (g : ℕ) (vs : List ℤ) → basin_check g vs ≡ Passed → Told g vs
+BasinTold = (g : ℕ) (vs : List ℤ) → basin_check g vs ≡ Ok tt → Told g vs

@@ -6,12 +6,10 @@ use Rattle.integers.specs.Sign.{sign_of}
 use Rattle.sphere.specs.declared.point.Point.{Point}
 use Rattle.sphere.specs.Orientation.{orientation_of, dot_of}
 use Rattle.sphere.specs.Crossing.{is_beside}
-use Rattle.answer.specs.declared.Found.{Found}
-use Rattle.answer.specs.declared.Found.TheVariants.{Nothing, At}
+use Rattle.std.specs.declared.option.Option.{Option}
+use Rattle.std.specs.declared.option.Option.TheVariants.{None, Some}
 use Rattle.answer.specs.Search.{first_from}
 use Rattle.polygon.specs.Vertices.{vertices_count, vertex_at, start_of, end_of}
-use Rattle.basin.specs.declared.pairs.FirstPair.{FirstPair}
-use Rattle.basin.specs.declared.pairs.FirstPair.TheVariants.{Apart, Pair}
 use Rattle.basin.specs.declared.pairs.Near.{Near}
 use Rattle.basin.specs.Shared.{is_shared, is_shared_beyond}
 
@@ -23,16 +21,16 @@ is_offending vs i j =
     (is_shared (start_of vs i) (end_of vs i) (start_of vs j) (end_of vs j)))
 
 -- What the search in row i found, or else what the later rows have.
-abbrev pub row_or : ℕ → Found → FirstPair → FirstPair
-row_or i Nothing later = later
-row_or i (At j) later = Pair i j
+abbrev pub row_or : ℕ → Option ℕ → Option (ℕ × ℕ) → Option (ℕ × ℕ)
+row_or i None later = later
+row_or i (Some j) later = Some (i, j)
 
 -- The rows i, i + 1, .. of k edges: each edge with those after it.
-unfoldable pub pairs_from : (ℕ → ℕ → Bool) → ℕ → ℕ → FirstPair
-pairs_from test i zero = Apart
+unfoldable pub pairs_from : (ℕ → ℕ → Bool) → ℕ → ℕ → Option (ℕ × ℕ)
+pairs_from test i zero = None
 pairs_from test i (suc k) = row_or i (first_from (test i) (suc i) k) (pairs_from test (suc i) k)
 
-unfoldable pub first_pair_of : List ℤ → FirstPair
+unfoldable pub first_pair_of : List ℤ → Option (ℕ × ℕ)
 first_pair_of vs = pairs_from (is_offending vs) 0 (vertices_count vs)
 
 -- ---- of the code alone

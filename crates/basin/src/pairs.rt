@@ -1,10 +1,9 @@
-// The first pair of edges that offends. Here, in order: FirstPair, closes, offends, Near, next_near, first_pair.
+// The first pair of edges that offends. Here, in order: closes, offends, Near, next_near, first_pair.
 // A row is an edge with those after it: its plane is made once, and the side of each vertex worked out once.
 ghost use Rattle.std.specs.Prelude.{◌≡◌, ◌&&◌, ◌+◌, ◌≤◌, ◌<◌, eqb};
 ghost use Rattle.integers.specs.Sign.{sign_of};
 ghost use Rattle.sphere.specs.Point.{limit_of};
 ghost use Rattle.sphere.specs.Plane.{Sound};
-ghost use Rattle.answer.specs.declared.Check.TheVariants.{Passed};
 ghost use Rattle.polygon.specs.Accepted.{Gridded};
 ghost use Rattle.polygon.specs.Checks.{polygon_check};
 ghost use Rattle.polygon.specs.Vertices.{vertices_count};
@@ -16,27 +15,17 @@ use sphere::crossing::is_beside;
 use sphere::plane::{Plane, plane_through, side_of};
 use sphere::point::Grid;
 
-// No pair, or the first that offends.
-#[derive(Clone, Copy)]
-pub enum FirstPair {
-    Apart,
-    Pair(usize, usize),
-}
-
 // Edge i is the first of n and edge j the last, so that they are neighbours.
 fn closes(n: usize, i: usize, j: usize) -> bool
     requires { j < n }
     ensures { result ≡ (eqb i 0 && eqb (j + 1) n) }
 {
-    if i == 0 {
-        return j + 1 == n;
-    }
-    false
+    i == 0 && j + 1 == n
 }
 
 // The full test of edge i and the later edge j, whose ends have the sides s1 and s2.
 fn offends(grid: Grid, vertices: &[i32], i: usize, j: usize, s1: i64, s2: i64) -> bool
-    requires vertices_value { polygon_check (limit_of grid) vertices.now ≡ Passed }
+    requires vertices_value { polygon_check (limit_of grid) vertices.now ≡ Ok tt }
     requires i_lt_j { (i < j) × (j < vertices_count vertices.now) × Sides vertices.now i j s1 s2 }
     ensures { result ≡ is_offending vertices.now i j }
 {
@@ -77,51 +66,42 @@ fn next_near(vertices: &[i32], plane: Plane, closing: i64, j: usize, side: i64, 
         × (sign_of closing ≡ sign_of (side_of vertices.now plane.normal 0)) }
     ensures { NearFrom vertices.now plane.normal j last result }
 {
-    let mut edge = j;
-    let mut s1 = side;
-    while edge < last {
-        let s2 = side_of(plane, vertex_at(vertices, edge + 1));
-        if !is_beside(s1, s2) {
-            return Near {
-                edge: edge,
-                start: s1,
-                end: s2,
-            };
+    let mut start = side;
+    for edge in j..last {
+        let end = side_of(plane, vertex_at(vertices, edge + 1));
+        if !is_beside(start, end) {
+            return Near { edge, start, end };
         }
-        s1 = s2;
-        edge += 1;
+        start = end;
     }
     Near {
-        edge: edge,
-        start: s1,
+        edge: last,
+        start,
         end: closing,
     }
 }
 
 // The lowest first edge, then the lowest second one; the search stops there. Vertex i + 1 lies in the plane of its row.
-pub(crate) fn first_pair(grid: Grid, vertices: &[i32]) -> FirstPair
-    requires { polygon_check (limit_of grid) vertices.now ≡ Passed }
+pub(crate) fn first_pair(grid: Grid, vertices: &[i32]) -> Option<(usize, usize)>
+    requires { polygon_check (limit_of grid) vertices.now ≡ Ok tt }
     ensures { result ≡ first_pair_of vertices.now }
 {
     let last = vertices.len() / 3 - 1;
-    let mut i: usize = 0;
-    let found = 'pairs: loop {
-        if i >= last {
-            break 'pairs FirstPair::Apart;
-        }
-        let plane = plane_through(grid, vertex_at(vertices, i), vertex_at(vertices, i + 1));
-        let closing = side_of(plane, vertex_at(vertices, 0));
-        let mut j = i + 1;
-        let mut side: i64 = 0;
-        while j <= last {
-            let near = next_near(vertices, plane, closing, j, side, last);
-            if offends(grid, vertices, i, near.edge, near.start, near.end) {
-                break 'pairs FirstPair::Pair(i, near.edge);
+    'pairs: {
+        for i in 0..last {
+            let plane = plane_through(grid, vertex_at(vertices, i), vertex_at(vertices, i + 1));
+            let closing = side_of(plane, vertex_at(vertices, 0));
+            let mut j = i + 1;
+            let mut side = 0;
+            while j <= last {
+                let near = next_near(vertices, plane, closing, j, side, last);
+                if offends(grid, vertices, i, near.edge, near.start, near.end) {
+                    break 'pairs Some((i, near.edge));
+                }
+                side = near.end;
+                j = near.edge + 1;
             }
-            side = near.end;
-            j = near.edge + 1;
         }
-        i += 1;
-    };
-    found
+        None
+    }
 }

@@ -29,11 +29,7 @@ pub fn put_word(b: &mut [u8], at: usize, n: u32)
 pub fn to_word(x: i32) -> u32
     ensures { result ≡ word_of x }
 {
-    if x >= 0 {
-        x as u32
-    } else {
-        4294967295 - (-1 - x) as u32
-    }
+    x.cast_unsigned()
 }
 
 fn put_int(b: &mut [u8], at: usize, x: i32)

@@ -12,8 +12,9 @@ use lib.Count.{ones, ones_step}
 use lib.ListN.{length}
 use lib.Pow.{shr-shr}
 use Rattle.sphere.specs.declared.point.Point.{Point}
-use Rattle.answer.specs.declared.Answer.{Answer}
-use Rattle.answer.specs.declared.Answer.TheVariants.{Done, Inside, Outside, Boundary, Refused}
+use Rattle.std.specs.declared.result.Result.TheVariants.{Ok, Err}
+use Rattle.answer.specs.Refusal.{Answer}
+use Rattle.answer.specs.declared.Verdict.TheVariants.{Done, Inside, Outside, Boundary}
 use Rattle.book.specs.Split.{Split, Whole, Broken, split_of}
 use Rattle.book.specs.Sets.{is_inside, is_boundary, is_refused, digit, mask_of}
 use Rattle.book.specs.Which.{zone_answer, which_after, which_of}
@@ -100,25 +101,25 @@ both_count p q apart (a ∷ l) =
 -- ---- no answer is in two sets
 
 inside_boundary : (a : Answer) → (is_inside a && is_boundary a) ≡ false
-inside_boundary (Done place) = refl
-inside_boundary (Inside crossed sum) = refl
-inside_boundary (Outside crossed sum) = refl
-inside_boundary (Boundary edge) = refl
-inside_boundary (Refused number place) = refl
+inside_boundary (Ok (Done place)) = refl
+inside_boundary (Ok (Inside crossed sum)) = refl
+inside_boundary (Ok (Outside crossed sum)) = refl
+inside_boundary (Ok (Boundary edge)) = refl
+inside_boundary (Err refusal) = refl
 
 inside_refused : (a : Answer) → (is_inside a && is_refused a) ≡ false
-inside_refused (Done place) = refl
-inside_refused (Inside crossed sum) = refl
-inside_refused (Outside crossed sum) = refl
-inside_refused (Boundary edge) = refl
-inside_refused (Refused number place) = refl
+inside_refused (Ok (Done place)) = refl
+inside_refused (Ok (Inside crossed sum)) = refl
+inside_refused (Ok (Outside crossed sum)) = refl
+inside_refused (Ok (Boundary edge)) = refl
+inside_refused (Err refusal) = refl
 
 boundary_refused : (a : Answer) → (is_boundary a && is_refused a) ≡ false
-boundary_refused (Done place) = refl
-boundary_refused (Inside crossed sum) = refl
-boundary_refused (Outside crossed sum) = refl
-boundary_refused (Boundary edge) = refl
-boundary_refused (Refused number place) = refl
+boundary_refused (Ok (Done place)) = refl
+boundary_refused (Ok (Inside crossed sum)) = refl
+boundary_refused (Ok (Outside crossed sum)) = refl
+boundary_refused (Ok (Boundary edge)) = refl
+boundary_refused (Err refusal) = refl
 
 -- ---- the claims
 
@@ -161,7 +162,7 @@ sets_disjoint book grid query = go (split_of book)
           mask_apart is_inside is_refused inside_refused l,
           mask_apart is_boundary is_refused boundary_refused l,
         )
-    go (Broken number place) = (and_zero_l 0, and_zero_l 0, and_zero_l 0)
+    go (Broken refusal) = (and_zero_l 0, and_zero_l 0, and_zero_l 0)
 
 pub count_is_zones : CountIsZones
 count_is_zones book grid query parts e =

@@ -32,7 +32,7 @@ use denote.Triple.Entry.{Vals}
 use denote.Triple.Spec.{triple_of}
 use Rattle.book.specs.Step.{step_at}
 use Rattle.book.specs.declared.reader.Reader.{Reader}
-use Rattle.book.specs.declared.step.Step.{Step}
+use Rattle.book.specs.Step.{Step}
 use Rattle.book.specs.contracts.reader.Reader as T
 use Rattle.book.proofs.reader.Reader.TheLaws as T'
 use Rattle.book.specs.contracts.step.step_at as step

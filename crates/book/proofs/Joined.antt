@@ -6,23 +6,23 @@ use native.Mathlib.Omega.{arith}
 use lib.ListN.{length, take, drop, length-append, length-drop}
 use lib.ListN.{get_or-append, get_or-eq_default}
 use lib.Seq.{drop-drop, take-append_seam, drop-append_seam, get_or-append-add}
+use Rattle.std.specs.declared.option.Option.TheVariants.{Some}
 use Rattle.big_endian.specs.Bytes.{byte_at}
-use Rattle.answer.specs.declared.Check.TheVariants.{Passed}
 use Rattle.fields.specs.Fields.{is_allowed, fields_check, sheet_fields, sheet_end}
 use Rattle.fields.proofs.Laws.Fields.{passed_field, passed_fields}
 use Rattle.fields.proofs.Laws.Same.{put_before}
 use Rattle.sheet.proofs.Laws.Reads.{fields_five}
-use Rattle.book.specs.declared.step.Step.TheVariants.{Sheet}
 use Rattle.book.specs.Split.{Whole, part_of, joined, split_from}
 use Rattle.book.specs.Claims.{zone_at, flat, SheetsMakeBook}
 use Rattle.book.proofs.Laws.Steps.{step_past, step_passed}
 use Rattle.book.proofs.Laws.Splits.{split_sheet, split_end, split_done}
+use Rattle.std.specs.declared.result.Result.TheVariants.{Ok}
 
 AllSheets : List (List ℕ) → Type 0
-AllSheets parts = (i : ℕ) → i < length parts → fields_check (zone_at parts i) ≡ Passed
+AllSheets parts = (i : ℕ) → i < length parts → fields_check (zone_at parts i) ≡ Ok tt
 
 -- A sheet begins with its tag, 1.
-begins : (part : List ℕ) → fields_check part ≡ Passed → (0 < length part) × (byte_at part 0 ≡ 1)
+begins : (part : List ℕ) → fields_check part ≡ Ok tt → (0 < length part) × (byte_at part 0 ≡ 1)
 begins part e =
     let f = passed_field 1 (is_allowed 4 4 1) part 0 (passed_fields part (fields_five part e)).zone in
     (omega (arith, f.head), f.tagged)
@@ -59,7 +59,7 @@ split_joined (suc left) book at (part ∷ parts) e l h =
     let f = put_before part (flat parts) (h 0 (omega arith)) (next_byte part parts (λ i k. h (suc i) (omega arith))) in
     let n = sym (length-drop at book) ∙ ap length e ∙ length-append part (flat parts) in
     let here = step_passed book at (omega (arith, (begins part (h 0 (omega arith))).0)) (ap sheet_fields e ∙ f.0) in
-    let step = here ∙ ap (Sheet at) (ap sheet_end e ∙ f.1) in
+    let step = here ∙ ap (λ n. Ok (Some (at, n))) (ap sheet_end e ∙ f.1) in
     let cut : part_of book at (length part) ≡ part = ap (take (length part)) e ∙ take-append_seam part (flat parts) in
     let rest : drop (at + length part) book ≡ flat parts =
     sym (drop-drop (length part) at book) ∙ ap (drop (length part)) e ∙ drop-append_seam part (flat parts) in

@@ -8,8 +8,8 @@ use lib.Count.{ones}
 use lib.ListN.{length}
 use Rattle.sphere.specs.declared.point.Point.{Point}
 use Rattle.big_endian.specs.Bytes.{short_at}
-use Rattle.answer.specs.declared.Answer.{Answer}
-use Rattle.answer.specs.declared.Check.TheVariants.{Passed}
+use Rattle.std.specs.declared.result.Result.TheVariants.{Ok}
+use Rattle.answer.specs.Refusal.{Answer}
 use Rattle.fields.specs.Fields.{is_allowed, field_end, field_check, grid_at, has_second_point, is_charset, charset_check, five_fields}
 use Rattle.fields.specs.Fields.{second_field, sheet_fields, rest_check, fields_check}
 use Rattle.sheet.specs.Claims.{octant_bytes, octant_pair_bytes}
@@ -22,7 +22,7 @@ use Rattle.book.proofs.Laws.Zones.{zone_named, zone_other}
 use Rattle.book.proofs.Bits.{which_split}
 use Rattle.book.proofs.Joined.{sheets_make_book}
 
-octants_sound : (i : ℕ) → i < length octant_sheets → fields_check (zone_at octant_sheets i) ≡ Passed
+octants_sound : (i : ℕ) → i < length octant_sheets → fields_check (zone_at octant_sheets i) ≡ Ok tt
 unfolding octant_bytes octant_pair_bytes fields_check rest_check sheet_fields second_field five_fields charset_check is_charset
     has_second_point grid_at field_check field_end is_allowed short_at
 octants_sound zero h = refl

@@ -9,23 +9,26 @@ use borrow.Author.Tests.{ltb-false}
 use lib.Dec.{ltb}
 use lib.ListN.{length, take, drop, length-append, length-drop, take-append-drop, drop_of_length-le}
 use lib.Seq.{length-take-le, drop-drop}
+use Rattle.answer.specs.declared.Reason.TheVariants.{ManySheets}
+use Rattle.answer.specs.Refusal.{refused_at}
+use Rattle.std.specs.declared.option.Option.TheVariants.{None, Some}
 use Rattle.fields.specs.Fields.{fields_check}
-use Rattle.book.specs.declared.step.Step.{Step}
-use Rattle.book.specs.declared.step.Step.TheVariants.{Sheet, Refused, End}
+use Rattle.book.specs.Step.{Step}
 use Rattle.book.specs.Step.{step_at, next_at}
 use Rattle.book.specs.Split.{Split, Whole, Broken, part_of, joined, split_from}
 use Rattle.book.specs.Claims.{zone_at, flat, place_of_part, visited, ReaderVisits, ReaderStays, PartsAreSheets}
-use Rattle.book.proofs.Laws.Steps.{step_past, sheet_at, part_sound, end_at, refused_at, next_sheet}
+use Rattle.book.proofs.Laws.Steps.{step_past, sheet_at, part_sound, end_at, refused_step, next_sheet}
 use Rattle.book.proofs.Laws.Splits.{split_sheet, split_refused, split_end}
+use Rattle.std.specs.declared.result.Result.TheVariants.{Err, Ok}
 
 -- The sheets from `at` on, of which there may be `left`.
 pub record From (left : ℕ) (book : List ℕ) (at : ℕ) (parts : List (List ℕ)) : Type 0 where
   pub few : length parts ≤ left
   pub all : flat parts ≡ drop at book
   pub sheets : (i : ℕ) → i < length parts →
-      (step_at book (at + place_of_part parts i) ≡ Sheet (at + place_of_part parts i) (length (zone_at parts i)))
+      (step_at book (at + place_of_part parts i) ≡ Ok (Some ((at + place_of_part parts i), (length (zone_at parts i)))))
       × (part_of book (at + place_of_part parts i) (length (zone_at parts i)) ≡ zone_at parts i)
-  pub ends : step_at book (at + place_of_part parts (length parts)) ≡ End
+  pub ends : step_at book (at + place_of_part parts (length parts)) ≡ Ok None
 
 nothing_left : (left : ℕ) (book : List ℕ) (at : ℕ) → length book ≤ at → From left book at []
 unfolding flat
@@ -37,7 +40,7 @@ nothing_left left book at h = record {
 }
 
 sheet_first :
-    {left : ℕ} {book : List ℕ} {at start size : ℕ} {parts : List (List ℕ)} → step_at book at ≡ Sheet start size →
+    {left : ℕ} {book : List ℕ} {at start size : ℕ} {parts : List (List ℕ)} → step_at book at ≡ Ok (Some (start, size)) →
     From left book (at + size) parts → From (suc left) book at (part_of book at size ∷ parts)
 unfolding flat
 sheet_first {left} {book} {at} {start} {size} {parts} e f = record {
@@ -58,12 +61,12 @@ sheet_first {left} {book} {at} {start} {size} {parts} e f = record {
 
     each : (i : ℕ) → i < length (part ∷ parts) →
         (step_at book (at + place_of_part (part ∷ parts) i)
-        ≡ Sheet (at + place_of_part (part ∷ parts) i) (length (zone_at (part ∷ parts) i)))
+        ≡ Ok (Some (at + place_of_part (part ∷ parts) i, length (zone_at (part ∷ parts) i))))
         × (part_of book (at + place_of_part (part ∷ parts) i) (length (zone_at (part ∷ parts) i)) ≡ zone_at (part ∷ parts) i)
     each zero h =
         let z : at + 0 ≡ at = omega arith in
         let s = sheet_at book at e in
-        (rw (z, sized) (e ∙ ap (λ n. Sheet n size) s.starts), rw (z, sized))
+        (rw (z, sized) (e ∙ ap (λ n. Ok (Some (n, size))) s.starts), rw (z, sized))
     each (suc i) h = rw (later i) (f.sheets i (omega arith))
 
 whole_same : {a b : List (List ℕ)} → Whole a ≡ Whole b → a ≡ b
@@ -74,7 +77,7 @@ split_from_lem : (left : ℕ) (book : List ℕ) (at : ℕ) (parts : List (List �
 unfolding split_from
 split_from_lem zero book at parts e = go (ltb at (length book)) refl e
   where
-    go : (t : Bool) → ltb at (length book) ≡ t → cond t (Broken 36 at) (Whole []) ≡ Whole parts → From 0 book at parts
+    go : (t : Bool) → ltb at (length book) ≡ t → cond t (Broken (refused_at ManySheets at)) (Whole []) ≡ Whole parts → From 0 book at parts
     go true h e = let z : ◌≡◌ {A = ℕ} 0 1 = cc in absurd (omega arith)
     go false h e = subst (From 0 book at) (whole_same e) (nothing_left 0 book at (ltb-false at (length book) h))
 split_from_lem (suc left) book at parts e = go (step_at book at) refl (λ next more g. split_from_lem left book next more g)
@@ -83,19 +86,19 @@ split_from_lem (suc left) book at parts e = go (step_at book at) refl (λ next m
     Later : Type 0
     Later = (next : ℕ) (more : List (List ℕ)) → split_from left book next ≡ Whole more → From left book next more
 
-    after : {start size : ℕ} (s : Split) → step_at book at ≡ Sheet start size → split_from left book (at + size) ≡ s →
+    after : {start size : ℕ} (s : Split) → step_at book at ≡ Ok (Some (start, size)) → split_from left book (at + size) ≡ s →
         joined (part_of book at size) s ≡ Whole parts → Later → From (suc left) book at parts
     after {start} {size} (Whole more) f g j later =
         subst (From (suc left) book at) (whole_same j) (sheet_first f (later (at + size) more g))
-    after (Broken n p) f g j later = let z : ◌≡◌ {A = ℕ} 0 1 = cc in absurd (omega arith)
+    after (Broken refusal) f g j later = let z : ◌≡◌ {A = ℕ} 0 1 = cc in absurd (omega arith)
 
     go : (s : Step) → step_at book at ≡ s → Later → From (suc left) book at parts
-    go (Sheet start size) f later =
+    go (Ok (Some (start, size))) f later =
         after (split_from left book (at + size)) f refl (sym (split_sheet left book at f) ∙ e) later
-    go (Refused n p) f later =
+    go (Err refusal) f later =
         let g = sym (split_refused left book at f) ∙ e in
         let z : ◌≡◌ {A = ℕ} 0 1 = cc in absurd (omega arith)
-    go End f later =
+    go (Ok None) f later =
         subst (From (suc left) book at) (whole_same (sym (split_end left book at f) ∙ e))
         (nothing_left (suc left) book at (end_at book at f))
 
@@ -125,11 +128,11 @@ reader_visits book parts e =
     zero-plus n = omega arith
 
     sheets : From 64 book 0 parts → (i : ℕ) → i < length parts →
-        (step_at book (place_of_part parts i) ≡ Sheet (place_of_part parts i) (length (zone_at parts i)))
+        (step_at book (place_of_part parts i) ≡ Ok (Some ((place_of_part parts i), (length (zone_at parts i)))))
         × (part_of book (place_of_part parts i) (length (zone_at parts i)) ≡ zone_at parts i)
     sheets f i h = rw (zero-plus (place_of_part parts i)) at (f.sheets i h)
 
-    ends : From 64 book 0 parts → step_at book (place_of_part parts (length parts)) ≡ End
+    ends : From 64 book 0 parts → step_at book (place_of_part parts (length parts)) ≡ Ok None
     ends f = rw (zero-plus (place_of_part parts (length parts))) at f.ends
 
     places : From 64 book 0 parts → (i : ℕ) → i ≤ length parts → visited book i ≡ place_of_part parts i
@@ -142,7 +145,7 @@ reader_visits book parts e =
 pub reader_stays : ReaderStays
 unfolding next_at
 reader_stays book at = (
-  λ number place e. let r = refused_at book at e in (r.stays, r.low, r.high),
+  λ refusal e. let r = refused_step book at e in (r.stays, r.low, r.high),
   λ h. let e = step_past book at h in (e, rw e (omega arith)),
 )
 

@@ -6,18 +6,20 @@
 -- their bytes, joined, are the book's), ReaderStays (on a refusal, 20 to 23, and at the end it does not move),
 -- PartsAreSheets (each part by itself passes 20 to 24), SheetsMakeBook (up to 64 such sheets joined end to end are a
 -- book of just these); OctantBook (a worked book of three).
+use Rattle.std.specs.declared.option.Option.TheVariants.{None, Some}
 use Rattle.std.specs.Prelude.{◌≡◌, ◌⊎◌, Bool, ◌||◌, List, [], ◌∷◌, ◌++◌, map, ℕ, zero, suc, ◌+◌, ◌/◌, ◌%◌, ◌^◌, ◌≤◌, ◌<◌, pos, negsuc, length, take, get_or}
 use Rattle.std.specs.Int.Bits.{bit_and}
 use Rattle.sphere.specs.declared.point.Grid.TheVariants.{Coarse, Fine}
 use Rattle.sphere.specs.declared.point.Point.{Point}
-use Rattle.answer.specs.declared.Answer.{Answer}
-use Rattle.answer.specs.declared.Answer.TheVariants.{Refused}
-use Rattle.answer.specs.declared.Check.TheVariants.{Passed}
+use Rattle.std.specs.declared.result.Result.TheVariants.{Ok, Err}
+use Rattle.answer.specs.declared.Refusal as answer
+use Rattle.answer.specs.declared.Reason.TheVariants.{OtherGrid}
+use Rattle.answer.specs.Refusal.{refused_at, reason_number}
+use Rattle.answer.specs.Refusal.{Answer}
 use Rattle.fields.specs.Fields.{grid_of, fields_check}
 use Rattle.sheet.specs.Claims.{octant_bytes, octant_pair_bytes}
 use Rattle.zone.specs.Judge.{sheet_answer_of}
 use Rattle.book.specs.declared.sets.Which.{Which}
-use Rattle.book.specs.declared.step.Step.TheVariants as step
 use Rattle.book.specs.Step.{step_at, next_at}
 use Rattle.book.specs.Split.{Whole, Broken, part_of, split_of}
 use Rattle.book.specs.Sets.{is_inside, is_boundary, is_refused, digit}
@@ -66,8 +68,8 @@ BitsAgree =
 pub record Matches (grid : ℕ) (query : Point) (part : List ℕ) : Type 0 where
   pub coarse : grid_of part ≡ Coarse → grid ≡ 0 → zone_answer grid query part ≡ sheet_answer_of part query
   pub fine : grid_of part ≡ Fine → grid ≡ 1 → zone_answer grid query part ≡ sheet_answer_of part query
-  pub not_coarse : grid_of part ≡ Coarse → (grid ≡ 0 → ⊥) → zone_answer grid query part ≡ Refused 28 0
-  pub not_fine : grid_of part ≡ Fine → (grid ≡ 1 → ⊥) → zone_answer grid query part ≡ Refused 28 0
+  pub not_coarse : grid_of part ≡ Coarse → (grid ≡ 0 → ⊥) → zone_answer grid query part ≡ Err (refused_at OtherGrid 0)
+  pub not_fine : grid_of part ≡ Fine → (grid ≡ 1 → ⊥) → zone_answer grid query part ≡ Err (refused_at OtherGrid 0)
 
 abbrev pub GridsMatch : Type 0
 GridsMatch = (grid : ℕ) (query : Point) (part : List ℕ) → Matches grid query part
@@ -99,8 +101,8 @@ pub record Refusal (book : List ℕ) (number place : ℕ) (which : Which) : Type
 
 abbrev pub RefusedBook : Type 0
 RefusedBook =
-    (book : List ℕ) (grid : ℕ) (query : Point) (number place : ℕ) → split_of book ≡ Broken number place →
-    Refusal book number place (which_of book grid query)
+    (book : List ℕ) (grid : ℕ) (query : Point) (refusal : answer.Refusal) → split_of book ≡ Broken refusal →
+    Refusal book (reason_number refusal.reason) refusal.place (which_of book grid query)
 
 -- ---- the walk
 
@@ -110,9 +112,9 @@ pub record Visits (book : List ℕ) (parts : List (List ℕ)) : Type 0 where
   pub all : flat parts ≡ book
   pub places : (i : ℕ) → i ≤ length parts → visited book i ≡ place_of_part parts i
   pub sheets : (i : ℕ) → i < length parts →
-      (step_at book (place_of_part parts i) ≡ step.Sheet (place_of_part parts i) (length (zone_at parts i)))
+      (step_at book (place_of_part parts i) ≡ Ok (Some ((place_of_part parts i), (length (zone_at parts i)))))
       × (part_of book (place_of_part parts i) (length (zone_at parts i)) ≡ zone_at parts i)
-  pub ends : step_at book (place_of_part parts (length parts)) ≡ step.End
+  pub ends : step_at book (place_of_part parts (length parts)) ≡ Ok None
 
 abbrev pub ReaderVisits : Type 0
 ReaderVisits = (book : List ℕ) (parts : List (List ℕ)) → split_of book ≡ Whole parts → Visits book parts
@@ -120,19 +122,19 @@ ReaderVisits = (book : List ℕ) (parts : List (List ℕ)) → split_of book ≡
 abbrev pub ReaderStays : Type 0
 ReaderStays =
     (book : List ℕ) (at : ℕ) →
-    ((number place : ℕ) → step_at book at ≡ step.Refused number place →
-    (next_at book at ≡ at) × (20 ≤ number) × (number ≤ 23))
-    × (length book ≤ at → (step_at book at ≡ step.End) × (next_at book at ≡ at))
+    ((refusal : answer.Refusal) → step_at book at ≡ Err refusal →
+    (next_at book at ≡ at) × (20 ≤ reason_number refusal.reason) × (reason_number refusal.reason ≤ 23))
+    × (length book ≤ at → (step_at book at ≡ Ok None) × (next_at book at ≡ at))
 
 abbrev pub PartsAreSheets : Type 0
 PartsAreSheets =
     (book : List ℕ) (parts : List (List ℕ)) → split_of book ≡ Whole parts → (i : ℕ) → i < length parts →
-    fields_check (zone_at parts i) ≡ Passed
+    fields_check (zone_at parts i) ≡ Ok tt
 
 abbrev pub SheetsMakeBook : Type 0
 SheetsMakeBook =
     (parts : List (List ℕ)) → length parts ≤ 64 →
-    ((i : ℕ) → i < length parts → fields_check (zone_at parts i) ≡ Passed) → split_of (flat parts) ≡ Whole parts
+    ((i : ℕ) → i < length parts → fields_check (zone_at parts i) ≡ Ok tt) → split_of (flat parts) ≡ Whole parts
 
 -- ---- a worked book
 

@@ -3,32 +3,35 @@
 -- inner functions, Below, with_bit, added_to.
 use Rattle.std.specs.Prelude.{Bool, true, false, cond, List, [], ◌∷◌, ℕ, ◌+◌, ◌*◌, ◌^◌, ◌<◌}
 use Rattle.std.specs.Int.Count.{ones}
-use Rattle.answer.specs.declared.Answer.{Answer}
-use Rattle.answer.specs.declared.Answer.TheVariants.{Done, Inside, Outside, Boundary, Refused}
+use Rattle.std.specs.declared.result.Result.TheVariants.{Ok, Err}
+use Rattle.answer.specs.declared.Refusal.{Refusal}
+use Rattle.answer.specs.Refusal.{reason_number}
+use Rattle.answer.specs.Refusal.{Answer}
+use Rattle.answer.specs.declared.Verdict.TheVariants.{Done, Inside, Outside, Boundary}
 use Rattle.book.specs.declared.sets.Sets.{Sets}
 use Rattle.book.specs.declared.sets.Which.{Which}
 
 -- The set that an answer names. Outside is in none. (No judging call answers Done.)
 abbrev pub is_inside : Answer → Bool
-is_inside (Done place) = false
-is_inside (Inside crossed sum) = true
-is_inside (Outside crossed sum) = false
-is_inside (Boundary edge) = false
-is_inside (Refused number place) = false
+is_inside (Ok (Done place)) = false
+is_inside (Ok (Inside crossed sum)) = true
+is_inside (Ok (Outside crossed sum)) = false
+is_inside (Ok (Boundary edge)) = false
+is_inside (Err refusal) = false
 
 abbrev pub is_boundary : Answer → Bool
-is_boundary (Done place) = false
-is_boundary (Inside crossed sum) = false
-is_boundary (Outside crossed sum) = false
-is_boundary (Boundary edge) = true
-is_boundary (Refused number place) = false
+is_boundary (Ok (Done place)) = false
+is_boundary (Ok (Inside crossed sum)) = false
+is_boundary (Ok (Outside crossed sum)) = false
+is_boundary (Ok (Boundary edge)) = true
+is_boundary (Err refusal) = false
 
 abbrev pub is_refused : Answer → Bool
-is_refused (Done place) = false
-is_refused (Inside crossed sum) = false
-is_refused (Outside crossed sum) = false
-is_refused (Boundary edge) = false
-is_refused (Refused number place) = true
+is_refused (Ok (Done place)) = false
+is_refused (Ok (Inside crossed sum)) = false
+is_refused (Ok (Outside crossed sum)) = false
+is_refused (Ok (Boundary edge)) = false
+is_refused (Err refusal) = true
 
 abbrev pub digit : Bool → ℕ
 digit t = cond t 1 0
@@ -53,8 +56,8 @@ abbrev pub found_of : Sets → Which
 found_of sets = record { number = 0; place = 0; count = ones sets.inside + ones sets.boundary; sets = sets }
 
 -- A book that is refused.
-abbrev pub broken_at : ℕ → ℕ → Which
-broken_at number place = record { number = number; place = place; count = 0; sets = no_zones }
+abbrev pub broken_at : Refusal → Which
+broken_at refusal = record { number = reason_number refusal.reason; place = refusal.place; count = 0; sets = no_zones }
 
 -- ---- of the code's inner functions: the sets zone by zone
 

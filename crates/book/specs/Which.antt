@@ -4,8 +4,9 @@ use Rattle.std.specs.Prelude.{not, List, map, ℕ, eqb}
 use Rattle.sphere.specs.declared.point.Grid.{Grid}
 use Rattle.sphere.specs.declared.point.Grid.TheVariants.{Coarse, Fine}
 use Rattle.sphere.specs.declared.point.Point.{Point}
-use Rattle.answer.specs.declared.Answer.{Answer}
-use Rattle.answer.specs.declared.Check.{Check}
+use Rattle.answer.specs.declared.Reason.TheVariants.{OtherGrid}
+use Rattle.answer.specs.Refusal.{Answer}
+use Rattle.answer.specs.Refusal.{Check}
 use Rattle.answer.specs.Answer.{answer_after}
 use Rattle.answer.specs.Chain.{fails_if}
 use Rattle.fields.specs.Fields.{grid_of}
@@ -21,14 +22,14 @@ grid_number_of Fine = 1
 
 -- Of a sheet whose fields are sound: 28 comes before 11.
 unfoldable pub named_check : ℕ → List ℕ → Check
-named_check grid part = fails_if 28 (not (eqb grid (grid_number_of (grid_of part))))
+named_check grid part = fails_if OtherGrid (not (eqb grid (grid_number_of (grid_of part))))
 
 unfoldable pub zone_answer : ℕ → Point → List ℕ → Answer
 zone_answer grid query part = answer_after (named_check grid part) (sheet_answer_of part query)
 
 abbrev pub which_after : (List ℕ → Answer) → Split → Which
 which_after answer (Whole parts) = found_of (sets_of (map answer parts))
-which_after answer (Broken number place) = broken_at number place
+which_after answer (Broken refusal) = broken_at refusal
 
 unfoldable pub which_of : List ℕ → ℕ → Point → Which
 which_of book grid query = which_after (zone_answer grid query) (split_of book)

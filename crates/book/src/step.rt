@@ -2,25 +2,19 @@
 ghost use Rattle.std.specs.Prelude.{◌≡◌};
 ghost use Rattle.book.specs.Step.{step_number_of, step_place_of, step_count_of, step_at, next_at};
 
-use answer::Check;
-use fields::{sheet_end, sheet_fields};
+use answer::Refusal;
+use fields::sheet_fields;
 
-// What stands at a place of a book: a sheet with its start and its length, one that is refused with the number and the
-// place, counted from the book's start, or nothing more. `specs/Step.antt` gives each case its number, place and count.
-#[derive(Clone, Copy)]
-pub enum Step {
-    Sheet(usize, usize),
-    Refused(u32, usize),
-    End,
-}
+// What stands at a place of a book: a sheet with its start and its length, nothing more, or one that is refused, whose
+// place is counted from the book's start. `specs/Step.antt` gives each case its number, place and count.
+pub type Step = Result<Option<(usize, usize)>, Refusal>;
 
 pub fn number(step: Step) -> u32
     ensures { result ≡ step_number_of step }
 {
     match step {
-        Step::Sheet(_, _) => 0,
-        Step::Refused(number, _) => number,
-        Step::End => 0,
+        Ok(_) => 0,
+        Err(refusal) => refusal.reason.number(),
     }
 }
 
@@ -28,9 +22,9 @@ pub fn place(step: Step) -> usize
     ensures { result ≡ step_place_of step }
 {
     match step {
-        Step::Sheet(start, _) => start,
-        Step::Refused(_, place) => place,
-        Step::End => 0,
+        Ok(Some((start, _))) => start,
+        Ok(None) => 0,
+        Err(refusal) => refusal.place,
     }
 }
 
@@ -38,9 +32,8 @@ pub fn count(step: Step) -> usize
     ensures { result ≡ step_count_of step }
 {
     match step {
-        Step::Sheet(_, size) => size,
-        Step::Refused(_, _) => 0,
-        Step::End => 0,
+        Ok(Some((_, size))) => size,
+        _ => 0,
     }
 }
 
@@ -49,14 +42,12 @@ pub fn step_at(book: &[u8], at: usize) -> Step
     ensures { result ≡ step_at book.now at }
 {
     if book.len() <= at {
-        return Step::End;
+        return Ok(None);
     }
     let rest = &book[at..];
-    let parts = sheet_fields(rest);
-    let check = parts.check;
-    match check {
-        Check::Passed => Step::Sheet(at, sheet_end(parts)),
-        Check::Failed(number, place) => Step::Refused(number, at + place),
+    match sheet_fields(rest) {
+        Ok(parts) => Ok(Some((at, parts.end()))),
+        Err(refusal) => Err(refusal.reason.at(at + refusal.place)),
     }
 }
 

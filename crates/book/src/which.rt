@@ -1,14 +1,13 @@
 // Which zones of a book hold a query. Here, in order: grid_number, zone_answer, zone_at, which.
 ghost use Rattle.std.specs.Prelude.{◌≡◌, ◌+◌, ◌≤◌, length};
-ghost use Rattle.answer.specs.declared.Check.TheVariants.{Passed};
 ghost use Rattle.fields.specs.Fields.{five_fields};
 ghost use Rattle.book.specs.Split.{part_of};
 ghost use Rattle.book.specs.Which.{grid_number_of, zone_answer, which_of};
 
 use crate::sets::{Sets, Which};
-use crate::step::{Step, step_at};
+use crate::step::step_at;
 use crate::zones::{broken, found, with_zone};
-use answer::Answer;
+use answer::{Answer, Reason};
 use sphere::point::{Grid, Point};
 use zone::judge::judge;
 
@@ -24,18 +23,18 @@ pub fn grid_number(grid: Grid) -> u32
 
 // The single call on a sheet's own bytes, if the named grid is the sheet's.
 fn zone_answer(part: &[u8], grid: u32, query: Point) -> Answer
-    requires { five_fields part.now ≡ Passed }
+    requires { five_fields part.now ≡ Ok tt }
     ensures { result ≡ zone_answer grid query part.now }
 {
     if grid != grid_number(fields::grid(part)) {
-        return Answer::Refused(28, 0);
+        return Err(Reason::OtherGrid.at(0));
     }
     judge(part, query)
 }
 
 // The same, of the sheet that stands in the book at `at`.
 fn zone_at(book: &[u8], at: usize, size: usize, grid: u32, query: Point) -> Answer
-    requires { (at + size ≤ length book.now) × (five_fields (part_of book.now at size) ≡ Passed) }
+    requires { (at + size ≤ length book.now) × (five_fields (part_of book.now at size) ≡ Ok tt) }
     ensures { result ≡ zone_answer grid query (part_of book.now at size) }
 {
     let end = at + size;
@@ -54,16 +53,16 @@ pub fn which(book: &[u8], grid: u32, query: Point) -> Which
     };
     for i in 0..64 {
         match step_at(book, at) {
-            Step::Sheet(_, size) => {
+            Ok(Some((_, size))) => {
                 zones = with_zone(zones, i, zone_at(book, at, size, grid, query));
                 at += size;
             }
-            Step::Refused(number, place) => return broken(number, place),
-            Step::End => return found(zones),
+            Ok(None) => return found(zones),
+            Err(refusal) => return broken(refusal),
         }
     }
     if at < book.len() {
-        return broken(36, at);
+        return broken(Reason::ManySheets.at(at));
     }
     found(zones)
 }

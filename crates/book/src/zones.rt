@@ -4,7 +4,7 @@ ghost use Rattle.std.specs.Prelude.{◌≡◌, ◌+◌, ◌^◌, ◌<◌};
 ghost use Rattle.book.specs.Sets.{Below, added_to, found_of, broken_at};
 
 use crate::sets::{Sets, Which};
-use answer::Answer;
+use answer::{Answer, Refusal, Verdict};
 
 // Bit i, above all that are set.
 fn set_bit(mask: u64, i: u64) -> u64
@@ -23,19 +23,19 @@ pub fn with_zone(sets: Sets, i: u64, answer: Answer) -> Sets
     let boundary = sets.boundary;
     let refused = sets.refused;
     match answer {
-        Answer::Done(_) => sets,
-        Answer::Inside(_, _) => Sets {
+        Ok(Verdict::Done(_)) => sets,
+        Ok(Verdict::Inside(_, _)) => Sets {
             inside: set_bit(inside, i),
             boundary,
             refused,
         },
-        Answer::Outside(_, _) => sets,
-        Answer::Boundary(_) => Sets {
+        Ok(Verdict::Outside(_, _)) => sets,
+        Ok(Verdict::Boundary(_)) => Sets {
             inside,
             boundary: set_bit(boundary, i),
             refused,
         },
-        Answer::Refused(_, _) => Sets {
+        Err(_) => Sets {
             inside,
             boundary,
             refused: set_bit(refused, i),
@@ -56,12 +56,12 @@ pub fn found(sets: Sets) -> Which
     }
 }
 
-pub fn broken(number: u32, place: usize) -> Which
-    ensures { result ≡ broken_at number place }
+pub fn broken(refusal: Refusal) -> Which
+    ensures { result ≡ broken_at refusal }
 {
     Which {
-        number,
-        place,
+        number: refusal.reason.number(),
+        place: refusal.place,
         count: 0,
         sets: Sets {
             inside: 0,

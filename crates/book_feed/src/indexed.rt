@@ -2,7 +2,6 @@
 // is_past, is_aside, near_one, near_at, is_worth (a guess); add_each.
 ghost use Rattle.std.specs.Prelude.{◌≡◌, ◌≤◌, ◌<◌};
 ghost use Rattle.sphere.specs.Point.{limit_of, fine, Within};
-ghost use Rattle.answer.specs.declared.Check.TheVariants.{Passed};
 ghost use Rattle.polygon.specs.Pair.{judge_from, optional_check};
 ghost use Rattle.polygon.specs.Verdict.{answer_of};
 ghost use Rattle.search.specs.Boxes.{Boxed};
@@ -12,7 +11,7 @@ ghost use Rattle.separation.specs.Planes.{Sound};
 ghost use Rattle.book_feed.specs.Adding.{Prepared, added_all};
 
 use crate::judged::add_judged;
-use answer::Answer;
+use answer::{Answer, Verdict};
 use big_endian::read;
 use cones::build::{build, no_index};
 use separation::planes::Planes;
@@ -32,7 +31,7 @@ fn add_by_index(
     queries: &[u8],
     results: &mut [u8],
 )
-    requires second_value { (optional_check (limit_of grid) vertices.now known second ≡ Passed)
+    requires second_value { (optional_check (limit_of grid) vertices.now known second ≡ Ok tt)
         × Boxed vertices.now boxes.now }
     requires sound { Sound vertices.now planes × (far ≡ answer_of (limit_of grid) vertices.now
         (judge_from known second (away_of vertices.now)) (away_of vertices.now)) }
@@ -139,7 +138,7 @@ pub fn add_each(
     queries: &[u8],
     results: &mut [u8],
 )
-    requires second_value { (optional_check (limit_of grid) vertices.now known second ≡ Passed)
+    requires second_value { (optional_check (limit_of grid) vertices.now known second ≡ Ok tt)
         × Boxed vertices.now boxes.now }
     requires sound { Sound vertices.now planes × (far ≡ answer_of (limit_of grid) vertices.now
         (judge_from known second (away_of vertices.now)) (away_of vertices.now)) }

@@ -2,7 +2,6 @@
 // in order: answer_for, add_judged. `indexed` says which of the two.
 ghost use Rattle.std.specs.Prelude.{◌≡◌, ◌<◌};
 ghost use Rattle.sphere.specs.Point.{limit_of};
-ghost use Rattle.answer.specs.declared.Check.TheVariants.{Passed};
 ghost use Rattle.polygon.specs.Pair.{judge_from, optional_check};
 ghost use Rattle.polygon.specs.Verdict.{answer_of};
 ghost use Rattle.search.specs.Boxes.{Boxed};
@@ -12,7 +11,7 @@ ghost use Rattle.separation.specs.Planes.{Sound};
 ghost use Rattle.book_feed.specs.Adding.{Prepared, added_all, SameSets};
 
 use crate::adding::add_to;
-use answer::Answer;
+use answer::{Answer, Verdict};
 use big_endian::read;
 use cones::build::Index;
 use feed::indexed::judge_indexed;
@@ -37,7 +36,7 @@ fn answer_for(
     second: Point,
     query: Point,
 ) -> Answer
-    requires second_value { (optional_check (limit_of grid) vertices.now known second ≡ Passed)
+    requires second_value { (optional_check (limit_of grid) vertices.now known second ≡ Ok tt)
         × Boxed vertices.now boxes.now }
     requires index_on { IndexOn vertices.now known sectors.now table.now list.now index }
     requires sound { Sound vertices.now planes × (far ≡ answer_of (limit_of grid) vertices.now
@@ -74,7 +73,7 @@ pub fn add_judged(
     queries: &[u8],
     results: &mut [u8],
 )
-    requires second_value { (optional_check (limit_of grid) vertices.now known second ≡ Passed)
+    requires second_value { (optional_check (limit_of grid) vertices.now known second ≡ Ok tt)
         × Boxed vertices.now boxes.now }
     requires index_on { IndexOn vertices.now known sectors.now table.now list.now index }
     requires sound { Sound vertices.now planes × (far ≡ answer_of (limit_of grid) vertices.now

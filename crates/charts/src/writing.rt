@@ -41,7 +41,7 @@ fn longest_name(rt: &impl Print) {
     let largest = [67108864, 0, 0, 0, 67108864, 0, 0, 0, 67108864];
     let known = fine(inner());
     let mut buffer = [238u8; 188];
-    write::write(
+    let _ = write::write(
         7,
         2,
         &[65; 120],

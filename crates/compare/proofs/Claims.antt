@@ -11,15 +11,17 @@ use lib.ListN.{length, get_or, replicate, length-append, length-replicate, get_o
 use lib.ListN.{get_or-eq_default}
 use lib.Seq.{get_or-append-add}
 use Rattle.big_endian.specs.Bytes.{byte_at}
-use Rattle.answer.specs.declared.Check.{Check}
-use Rattle.answer.specs.declared.Check.TheVariants.{Passed, Failed}
+use Rattle.std.specs.declared.result.Result.TheVariants.{Ok, Err}
+use Rattle.answer.specs.Refusal.{Check}
 use Rattle.answer.specs.Chain.{◌then◌}
 use Rattle.answer.proofs.Laws.Chain.{then_passed}
 use Rattle.answer.proofs.Laws.Numbers.{Numbered, ◌both◌}
 use Rattle.sheet.specs.Sheet.{sheet_check}
 use Rattle.sheet.proofs.Laws.Numbers.{Above, above_sheet}
-use Rattle.compare.specs.Differences.{Field, zone_field, charset_field, name_field, known_field, vertices_field}
-use Rattle.compare.specs.Differences.{grid_field, second_field_lem, field_number, all_fields, differs, differing}
+use Rattle.compare.specs.declared.differences.Field.{Field}
+use Rattle.compare.specs.declared.differences.Field.TheVariants.{ZoneNumber, CharacterSet, Name, KnownPoint, Vertices}
+use Rattle.compare.specs.declared.differences.Field.TheVariants.{WhichGrid, SecondPoint}
+use Rattle.compare.specs.Differences.{field_number, all_fields, differs, differing}
 use Rattle.compare.specs.Differences.{differences_of, filled}
 use Rattle.compare.specs.Comparison.{compared_after, comparison_of}
 use Rattle.compare.specs.Claims.{Same, Exact, FieldsExact}
@@ -32,13 +34,13 @@ data In (f : Field) : List Field → Type 0 where
   later : {g : Field} {fs : List Field} → In f fs → In f (g ∷ fs)
 
 all_in : (f : Field) → In f all_fields
-all_in zone_field = here
-all_in charset_field = later here
-all_in name_field = later (later here)
-all_in known_field = later (later (later here))
-all_in vertices_field = later (later (later (later here)))
-all_in grid_field = later (later (later (later (later here))))
-all_in second_field_lem = later (later (later (later (later (later here)))))
+all_in ZoneNumber = here
+all_in CharacterSet = later here
+all_in Name = later (later here)
+all_in KnownPoint = later (later (later here))
+all_in Vertices = later (later (later (later here)))
+all_in WhichGrid = later (later (later (later (later here))))
+all_in SecondPoint = later (later (later (later (later (later here)))))
 
 -- The numbers rise along a list of fields, from above m on.
 abbrev Rising : ℕ → List Field → Type 0
@@ -148,15 +150,15 @@ module _ (ns : List ℕ) (few : length ns ≤ 7) where
       ∙ zeros (7 - length ns) (i - length ns)
 
 -- ---- two sheets that are accepted
-checks : (b c : List ℕ) → (comparison_of b c).number ≡ 0 → (sheet_check b then sheet_check c) ≡ Passed
+checks : (b c : List ℕ) → (comparison_of b c).number ≡ 0 → (sheet_check b then sheet_check c) ≡ Ok tt
 unfolding comparison_of
 checks b c e = go (sheet_check b then sheet_check c) (above_sheet b both above_sheet c) e
   where
-    go : (k : Check) → Numbered (Above 10) k → (compared_after k b c).number ≡ 0 → k ≡ Passed
-    go Passed h e = refl
-    go (Failed n p) h e = absurd (omega (arith, h.each n p refl))
+    go : (k : Check) → Numbered (Above 10) k → (compared_after k b c).number ≡ 0 → k ≡ Ok tt
+    go (Ok unit) h e = refl
+    go (Err refusal) h e = absurd (omega (arith, h.each refusal refl))
 
-module _ (b c : List ℕ) (left : sheet_check b ≡ Passed) (right : sheet_check c ≡ Passed) where
+module _ (b c : List ℕ) (left : sheet_check b ≡ Ok tt) (right : sheet_check c ≡ Ok tt) where
   abbrev ns : List ℕ
   ns = differing (differs b c) all_fields
 

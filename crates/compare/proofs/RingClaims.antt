@@ -2,14 +2,14 @@
 use mathlib.Core.Path.{◌≡◌, refl, sym, ◌∙◌, ap}
 use mathlib.Core.Bool.{Bool, true, false, not, cond, true≢false}
 use mathlib.Core.List.{List}
-use Prim.Native.Nat.{ℕ, ◌≤◌, ◌<◌}
+use Prim.Native.Nat.{ℕ, min, ◌<◌}
 use native.Mathlib.Omega.{arith}
 use borrow.Author.Tests.{eqb-true, eq-eqb, not-true, not-false}
 use lib.Dec.{eqb}
 use lib.IntN.{ℤ}
 use Rattle.sphere.specs.Direction.{is_same_direction}
-use Rattle.answer.specs.declared.Found.{Found}
-use Rattle.answer.specs.declared.Found.TheVariants.{Nothing, At}
+use Rattle.std.specs.declared.option.Option.{Option}
+use Rattle.std.specs.declared.option.Option.TheVariants.{None, Some}
 use Rattle.answer.specs.Search.{first_from}
 use Rattle.answer.proofs.Laws.First.{none_first, first_found}
 use Rattle.answer.proofs.Laws.Search.{first_none}
@@ -17,14 +17,13 @@ use Rattle.polygon.specs.Vertices.{vertices_count, vertex_at}
 use Rattle.compare.specs.declared.ring.Placed.{Placed}
 use Rattle.compare.specs.declared.ring.Placed.TheVariants.{Apart, Forward, Backward}
 use Rattle.compare.specs.Ring.{Meets, SameRing, forward, backward, met_at, differs_at}
-use Rattle.compare.specs.Ring.{is_nowhere, is_meeting, first_meeting, least_of, or_else, difference_of, placed_by}
+use Rattle.compare.specs.Ring.{is_nowhere, is_meeting, first_meeting, or_else, difference_of, placed_by}
 use Rattle.compare.specs.Ring.{placed_of, way_of}
 use Rattle.compare.specs.Claims.{SameRingTold, LowestMeeting, Agree, FirstDifference, PlacedLowest, PlaceLowest}
-use Rattle.compare.proofs.Laws.Ring.{least_both, least_one}
 
-pub nowhere : (f : Found) → is_nowhere f ≡ true → f ≡ Nothing
-nowhere Nothing e = refl
-nowhere (At k) e = absurd (true≢false (sym e))
+pub nowhere : (f : Option ℕ) → is_nowhere f ≡ true → f ≡ None
+nowhere None e = refl
+nowhere (Some k) e = absurd (true≢false (sym e))
 
 -- ---- the test says just that all vertices meet
 module _ (ls rs : List ℤ) (size : vertices_count rs ≡ vertices_count ls) (back : Bool) (k : ℕ) where
@@ -46,7 +45,7 @@ module _ (ls rs : List ℤ) (size : vertices_count rs ≡ vertices_count ls) (ba
 
 module _ (ls rs : List ℤ) where
   -- ---- a search that found a vertex, or none
-  found→lowest : vertices_count rs ≡ vertices_count ls → (back : Bool) (k : ℕ) → first_meeting ls rs back ≡ At k →
+  found→lowest : vertices_count rs ≡ vertices_count ls → (back : Bool) (k : ℕ) → first_meeting ls rs back ≡ Some k →
       LowestMeeting ls rs (met_at back (vertices_count ls)) k
   unfolding first_meeting
   found→lowest size back k e = let l = first_found (is_meeting ls rs back) 0 (vertices_count ls) k e in record {
@@ -56,7 +55,7 @@ module _ (ls rs : List ℤ) where
         true≢false (sym (meets→meeting ls rs size back j m) ∙ l.before j (omega arith) h);
   }
 
-  none→apart : (back : Bool) → first_meeting ls rs back ≡ Nothing → (k : ℕ) → k < vertices_count ls →
+  none→apart : (back : Bool) → first_meeting ls rs back ≡ None → (k : ℕ) → k < vertices_count ls →
       Meets ls rs (met_at back (vertices_count ls) k) → ⊥
   unfolding first_meeting
   none→apart back e k h m =
@@ -66,15 +65,12 @@ module _ (ls rs : List ℤ) where
 
   -- ---- the first difference
   abbrev size : ℕ
-  size = least_of (vertices_count ls) (vertices_count rs)
-
-  abbrev bounds : (size ≤ vertices_count ls) × (size ≤ vertices_count rs)
-  bounds = least_both (vertices_count ls) (vertices_count rs)
+  size = min (vertices_count ls) (vertices_count rs)
 
   alike : (j : ℕ) → j < size → differs_at ls rs (λ i. i) j ≡ false → Agree ls rs j
   alike j h e = record {
-    in_left = omega (arith, bounds.0);
-    in_right = omega (arith, bounds.1);
+    in_left = omega arith;
+    in_right = omega arith;
     same = not-false (is_same_direction (vertex_at ls j) (vertex_at rs j)) e;
   }
 
@@ -82,23 +78,23 @@ module _ (ls rs : List ℤ) where
   unfolding difference_of
   first_difference = go (first_from (differs_at ls rs (λ i. i)) 0 size) refl
     where
-      go : (f : Found) → first_from (differs_at ls rs (λ i. i)) 0 size ≡ f → FirstDifference ls rs (or_else f size)
-      go (At i) e = let l = first_found (differs_at ls rs (λ i. i)) 0 size i e in record {
+      go : (f : Option ℕ) → first_from (differs_at ls rs (λ i. i)) 0 size ≡ f → FirstDifference ls rs (or_else f size)
+      go (Some i) e = let l = first_found (differs_at ls rs (λ i. i)) 0 size i e in record {
         here = λ a. true≢false (sym a.same ∙ not-true (is_same_direction (vertex_at ls i) (vertex_at rs i)) l.holds);
         before = λ j h. alike j (omega (arith, l.below)) (l.before j (omega arith) h);
       }
-      go Nothing e = record {
-        here = λ a. least_one (vertices_count ls) (vertices_count rs) a.in_left a.in_right;
+      go None e = record {
+        here = λ a. let l = a.in_left in let r = a.in_right in omega arith;
         before = λ j h. alike j h (first_none (differs_at ls rs (λ i. i)) 0 size j e (omega arith) (omega arith));
       }
 
   -- ---- the claims
-  by_found : vertices_count rs ≡ vertices_count ls → (f g : Found) → first_meeting ls rs false ≡ f →
+  by_found : vertices_count rs ≡ vertices_count ls → (f g : Option ℕ) → first_meeting ls rs false ≡ f →
       first_meeting ls rs true ≡ g → PlacedLowest ls rs (placed_by f g (difference_of ls rs))
   unfolding met_at
-  by_found size (At k) g e h = found→lowest size false k e
-  by_found size Nothing (At k) e h = (found→lowest size true k h, none→apart false e)
-  by_found size Nothing Nothing e h = first_difference
+  by_found n (Some k) g e h = found→lowest n false k e
+  by_found n None (Some k) e h = (found→lowest n true k h, none→apart false e)
+  by_found _ None None e h = first_difference
 
   lowest : PlacedLowest ls rs (placed_of ls rs)
   unfolding placed_of
@@ -121,13 +117,13 @@ module _ (ls rs : List ℤ) where
       go (Apart i) l w = absurd (w refl)
 
   -- A ring that meets is found.
-  found_by : (f g : Found) (i : ℕ) → (f ≡ Nothing → g ≡ Nothing → ⊥) → way_of (placed_by f g i) ≡ 0 → ⊥
-  found_by (At k) g i h e = omega arith
-  found_by Nothing (At k) i h e = omega arith
-  found_by Nothing Nothing i h e = h refl refl
+  found_by : (f g : Option ℕ) (i : ℕ) → (f ≡ None → g ≡ None → ⊥) → way_of (placed_by f g i) ≡ 0 → ⊥
+  found_by (Some k) g i h e = omega arith
+  found_by None (Some k) i h e = omega arith
+  found_by None None i h e = h refl refl
 
   by_size : vertices_count rs ≡ vertices_count ls →
-      (first_meeting ls rs false ≡ Nothing → first_meeting ls rs true ≡ Nothing → ⊥) → way_of (placed_of ls rs) ≡ 0 → ⊥
+      (first_meeting ls rs false ≡ None → first_meeting ls rs true ≡ None → ⊥) → way_of (placed_of ls rs) ≡ 0 → ⊥
   unfolding placed_of
   by_size size h e =
       found_by (first_meeting ls rs false) (first_meeting ls rs true) (difference_of ls rs) h

@@ -8,11 +8,13 @@ use Rattle.big_endian.specs.Bytes.{byte_at}
 use Rattle.polygon.specs.Vertices.{vertices_count, vertex_at}
 use Rattle.fields.specs.Fields.{grid_of, has_second_point}
 use Rattle.sheet.specs.Sheet.{zone_of, charset_of, name_of, known_of, vertices_of, second_of}
+use Rattle.compare.specs.declared.differences.Field.{Field}
+use Rattle.compare.specs.declared.differences.Field.TheVariants.{ZoneNumber, CharacterSet, Name, KnownPoint, Vertices}
+use Rattle.compare.specs.declared.differences.Field.TheVariants.{WhichGrid, SecondPoint}
 use Rattle.compare.specs.declared.ring.Placed.{Placed}
 use Rattle.compare.specs.declared.ring.Placed.TheVariants.{Apart, Forward, Backward}
 use Rattle.compare.specs.Ring.{forward_at, backward_at, Meets, SameRing, placed_of, way_of}
-use Rattle.compare.specs.Differences.{Field, zone_field, charset_field, name_field, known_field, vertices_field}
-use Rattle.compare.specs.Differences.{grid_field, second_field_lem, field_number}
+use Rattle.compare.specs.Differences.{field_number}
 use Rattle.compare.specs.Comparison.{comparison_of}
 
 -- ---- the way, of any two lists
@@ -61,13 +63,13 @@ pub data SameSecond (b c : List ℕ) : Type 0 where
 
 -- The field is the same in both sheets.
 abbrev pub Same : List ℕ → List ℕ → Field → Type 0
-Same b c zone_field = zone_of b ≡ zone_of c
-Same b c charset_field = charset_of b ≡ charset_of c
-Same b c name_field = name_of b ≡ name_of c
-Same b c known_field = is_same_direction (known_of b) (known_of c) ≡ true
-Same b c vertices_field = SameRing (vertices_of b) (vertices_of c)
-Same b c grid_field = grid_of b ≡ grid_of c
-Same b c second_field_lem = SameSecond b c
+Same b c ZoneNumber = zone_of b ≡ zone_of c
+Same b c CharacterSet = charset_of b ≡ charset_of c
+Same b c Name = name_of b ≡ name_of c
+Same b c KnownPoint = is_same_direction (known_of b) (known_of c) ≡ true
+Same b c Vertices = SameRing (vertices_of b) (vertices_of c)
+Same b c WhichGrid = grid_of b ≡ grid_of c
+Same b c SecondPoint = SameSecond b c
 
 -- Among the first `count` bytes.
 pub record Listed (fields : List ℕ) (count : ℕ) (number : ℕ) : Type 0 where

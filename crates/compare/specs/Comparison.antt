@@ -1,8 +1,9 @@
 -- Document 02, P11: what comparing two sheets returns, for any bytes. Defined, in order: refused_comparison,
 -- compared_after, comparison_of. Refusals: the left sheet's, else the right sheet's. Mixed grids are not refused here.
 use Rattle.std.specs.Prelude.{List, ℕ, length, replicate}
-use Rattle.answer.specs.declared.Check.{Check}
-use Rattle.answer.specs.declared.Check.TheVariants.{Passed, Failed}
+use Rattle.std.specs.declared.result.Result.TheVariants.{Ok, Err}
+use Rattle.answer.specs.declared.Refusal.{Refusal}
+use Rattle.answer.specs.Refusal.{Check, reason_number}
 use Rattle.answer.specs.Chain.{◌then◌}
 use Rattle.sheet.specs.Sheet.{vertices_of, sheet_check}
 use Rattle.compare.specs.declared.Comparison.{Comparison}
@@ -10,10 +11,10 @@ use Rattle.compare.specs.Ring.{placed_of, way_of, place_of}
 use Rattle.compare.specs.Differences.{differences_of, filled}
 
 -- A refusal, and zeros beside it.
-abbrev pub refused_comparison : ℕ → ℕ → Comparison
-refused_comparison number place = record {
-  number = number;
-  place = place;
+abbrev pub refused_comparison : Refusal → Comparison
+refused_comparison refusal = record {
+  number = reason_number refusal.reason;
+  place = refusal.place;
   count = 0;
   way = 0;
   fields = replicate 7 0;
@@ -21,8 +22,8 @@ refused_comparison number place = record {
 
 -- The place is the ring's, also where the rings do not differ; the count is the number of fields that do.
 abbrev pub compared_after : Check → List ℕ → List ℕ → Comparison
-compared_after (Failed number place) b c = refused_comparison number place
-compared_after Passed b c = record {
+compared_after (Err refusal) b c = refused_comparison refusal
+compared_after (Ok unit) b c = record {
   number = 0;
   place = place_of (placed_of (vertices_of b) (vertices_of c));
   count = length (differences_of b c);

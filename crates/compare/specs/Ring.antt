@@ -1,15 +1,15 @@
 -- Document 02, P11: two rings, by the directions of their vertices: 'the same ring may start elsewhere or run
 -- backwards'. A ring is a list of vertices (polygon/specs/Vertices), the left one ls and the right one rs. Defined, in
 -- order: round_of, forward_at, backward_at, Meets, SameRing (what 'the same ring' means); met_at, differs_at, is_nowhere,
--- is_meeting, first_meeting, least_of, or_else, difference_of, placed_by, placed_of (the search for it); way_of, place_of;
+-- is_meeting, first_meeting, or_else, difference_of, placed_by, placed_of (the search for it); way_of, place_of;
 -- ring_size, ring_of, Sound (a ring in bytes, as the code has it). That the search finds just the same rings, and the
 -- lowest place: Claims.SameRingTold, PlaceLowest.
-use Rattle.std.specs.Prelude.{◌≡◌, Bool, true, false, not, cond, List, ℕ, ◌+◌, ◌*◌, ◌/◌, ◌-◌, ◌≤◌, ◌<◌, eqb, ltb, ℤ, length}
+use Rattle.std.specs.Prelude.{◌≡◌, Bool, true, false, not, cond, List, ℕ, ◌+◌, ◌*◌, ◌/◌, ◌-◌, ◌≤◌, ◌<◌, eqb, ltb, min, ℤ, length}
 use Rattle.sphere.specs.Point.{fine}
 use Rattle.sphere.specs.Direction.{is_same_direction}
 use Rattle.big_endian.specs.Bytes.{ints_at}
-use Rattle.answer.specs.declared.Found.{Found}
-use Rattle.answer.specs.declared.Found.TheVariants.{Nothing, At}
+use Rattle.std.specs.declared.option.Option.{Option}
+use Rattle.std.specs.declared.option.Option.TheVariants.{None, Some}
 use Rattle.answer.specs.Search.{first_from}
 use Rattle.polygon.specs.Vertices.{vertices_count, vertex_at}
 use Rattle.polygon.specs.Accepted.{Gridded}
@@ -48,9 +48,9 @@ met_at back n k i = cond back (backward_at n k i) (forward_at n k i)
 abbrev pub differs_at : List ℤ → List ℤ → (ℕ → ℕ) → ℕ → Bool
 differs_at ls rs at i = not (is_same_direction (vertex_at ls i) (vertex_at rs (at i)))
 
-abbrev pub is_nowhere : Found → Bool
-is_nowhere Nothing = true
-is_nowhere (At place) = false
+abbrev pub is_nowhere : Option ℕ → Bool
+is_nowhere None = true
+is_nowhere (Some place) = false
 
 -- Where the right ring's vertex k meets the left's vertex 0, all others meet too.
 unfoldable pub is_meeting : List ℤ → List ℤ → Bool → ℕ → Bool
@@ -58,26 +58,23 @@ is_meeting ls rs back k =
     is_nowhere (first_from (differs_at ls rs (met_at back (vertices_count ls) k)) 0 (vertices_count ls))
 
 -- The lowest such vertex of the right ring.
-unfoldable pub first_meeting : List ℤ → List ℤ → Bool → Found
+unfoldable pub first_meeting : List ℤ → List ℤ → Bool → Option ℕ
 first_meeting ls rs back = first_from (is_meeting ls rs back) 0 (vertices_count ls)
 
+abbrev pub or_else : Option ℕ → ℕ → ℕ
+or_else None n = n
+or_else (Some place) n = place
+
 -- The first vertex number whose points differ, a missing one included.
-abbrev pub least_of : ℕ → ℕ → ℕ
-least_of m n = cond (ltb m n) m n
-
-abbrev pub or_else : Found → ℕ → ℕ
-or_else Nothing n = n
-or_else (At place) n = place
-
 unfoldable pub difference_of : List ℤ → List ℤ → ℕ
 difference_of ls rs =
-    let n = least_of (vertices_count ls) (vertices_count rs) in or_else (first_from (differs_at ls rs (λ i. i)) 0 n) n
+    let n = min (vertices_count ls) (vertices_count rs) in or_else (first_from (differs_at ls rs (λ i. i)) 0 n) n
 
 -- The lowest forward one, else the lowest backward one, else the first difference.
-abbrev pub placed_by : Found → Found → ℕ → Placed
-placed_by (At k) back i = Forward k
-placed_by Nothing (At k) i = Backward k
-placed_by Nothing Nothing i = Apart i
+abbrev pub placed_by : Option ℕ → Option ℕ → ℕ → Placed
+placed_by (Some k) back i = Forward k
+placed_by None (Some k) i = Backward k
+placed_by None None i = Apart i
 
 unfoldable pub placed_of : List ℤ → List ℤ → Placed
 placed_of ls rs =

@@ -1,20 +1,39 @@
-// The fields in which two sheets differ. Here, in order: Differences, none, with_field; ring_in, name_in (parts of a
-// sheet's bytes), is_same_row, is_same_second; head_differences (fields 1 to 3), all_differences.
+// The fields in which two sheets differ. Here, in order: Field, Differences (none, with); ring_in, name_in (parts of a
+// sheet's bytes), is_same_second; head_differences (fields 1 to 3), all_differences.
 ghost use Rattle.std.specs.Prelude.{◌≡◌, [], ◌∷◌, ◌<◌};
 ghost use Rattle.sphere.specs.Point.{fine, Within};
-ghost use Rattle.answer.specs.declared.Check.TheVariants.{Passed};
 ghost use Rattle.fields.specs.Fields.{five_fields};
-ghost use Rattle.sheet.specs.Sheet.{name_length, name_of, vertex_count_of, vertices_of, sheet_check, read_after};
+ghost use Rattle.sheet.specs.Sheet.{name_length, name_of, vertex_count_of, vertices_of};
 ghost use Rattle.compare.specs.Ring.{ring_of, placed_of};
-ghost use Rattle.compare.specs.Differences.{zone_field, charset_field, name_field, is_same_row, is_same_second};
-ghost use Rattle.compare.specs.Differences.{differs, differing, differences_of, noted, pushed};
+ghost use Rattle.compare.specs.Differences.{field_number, is_same_second, Accepted, differs, differing, differences_of};
+ghost use Rattle.compare.specs.Differences.{noted, pushed};
+ghost use Rattle.compare.specs.declared.differences.Field.TheVariants.{ZoneNumber, CharacterSet, Name};
 
-use crate::ring::{Placed, way};
-use fields::tag;
+use crate::ring::Placed;
 use sheet::open::vertices_in;
 use sheet::read::Sheet;
 use sphere::direction::same_direction;
 use sphere::point::{Point, is_null};
+
+// What two sheets can differ in. The first five have the numbers of their tags.
+#[derive(Clone, Copy)]
+pub enum Field {
+    ZoneNumber = 1,
+    CharacterSet = 2,
+    Name = 3,
+    KnownPoint = 4,
+    Vertices = 5,
+    WhichGrid = 6,
+    SecondPoint = 7,
+}
+
+impl Field {
+    fn number(self) -> u8
+        ensures { result ≡ field_number self }
+    {
+        self as u8
+    }
+}
 
 // The numbers of the fields that differ, in order, and how many they are; 0 after the last.
 #[derive(Clone, Copy)]
@@ -23,35 +42,38 @@ pub struct Differences {
     pub count: usize,
 }
 
-fn none() -> Differences
-    ensures { result ≡ noted [] }
-{
-    Differences {
-        numbers: [0; 7],
-        count: 0,
+impl Differences {
+    fn none() -> Differences
+        ensures { result ≡ noted [] }
+    {
+        Differences {
+            numbers: [0; 7],
+            count: 0,
+        }
     }
-}
 
-// One field more, if it differs.
-fn with_field(d: Differences, number: u8, other: bool) -> Differences
-    requires { d.count < 7 }
-    ensures { result ≡ pushed d number other }
-{
-    if other {
-        let mut numbers = d.numbers;
-        let count = d.count;
-        numbers[count] = number;
-        return Differences {
-            numbers: numbers,
-            count: count + 1,
-        };
+    // One field more, if it differs.
+    #[tactic(auto, unfolding(crate::specs::Differences::pushed))]
+    fn with(self, field: Field, other: bool) -> Differences
+        requires { self.count < 7 }
+        ensures { result ≡ pushed self (field_number field) other }
+    {
+        if !other {
+            return self;
+        }
+        let mut numbers = self.numbers;
+        numbers[self.count] = field.number();
+        Differences {
+            numbers,
+            count: self.count + 1,
+        }
     }
-    d
 }
 
 // The vertices, as they stand in a sheet of so many and with a name of so many bytes. Neither number is read again.
+#[tactic(auto, using(sheet::proofs::Laws::Places::vertices_stand, crate::proofs::Laws::Ring::ring_part))]
 pub(crate) fn ring_in(b: &[u8], name: usize, count: usize) -> &[u8]
-    requires b_value { (five_fields b.now ≡ Passed) × (name ≡ name_length b.now) }
+    requires b_value { (five_fields b.now ≡ Ok tt) × (name ≡ name_length b.now) }
     requires count_value { count ≡ vertex_count_of b.now }
     ensures { ring_of result.now ≡ vertices_of b.now }
 {
@@ -59,29 +81,17 @@ pub(crate) fn ring_in(b: &[u8], name: usize, count: usize) -> &[u8]
 }
 
 // The name, which has so many bytes.
+#[tactic(auto, using(sheet::proofs::Laws::Places::vertices_stand))]
 fn name_in(b: &[u8], len: usize) -> &[u8]
-    requires { (five_fields b.now ≡ Passed) × (len ≡ name_length b.now) }
+    requires { (five_fields b.now ≡ Ok tt) × (len ≡ name_length b.now) }
     ensures { result.now ≡ name_of b.now }
 {
     let at = fields::NAME_START + 3;
     &b[at..at + len]
 }
 
-fn is_same_row(l: &[u8], r: &[u8]) -> bool
-    ensures { result ≡ is_same_row l.now r.now }
-{
-    if r.len() != l.len() {
-        return false;
-    }
-    for i in 0..l.len() {
-        if l[i] != r[i] {
-            return false;
-        }
-    }
-    true
-}
-
 // Two second points, each all zero where its sheet has none.
+#[tactic(auto, unfolding(crate::specs::Differences::is_same_second))]
 fn is_same_second(y: Point, z: Point) -> bool
     requires { Within fine y × Within fine z }
     ensures { result ≡ is_same_second y z }
@@ -89,26 +99,25 @@ fn is_same_second(y: Point, z: Point) -> bool
     if is_null(y) {
         return is_null(z);
     }
-    if is_null(z) {
-        return false;
-    }
-    same_direction(y, z)
+    !is_null(z) && same_direction(y, z)
 }
 
 // Zone number, character set and name of two sheets that were read.
+#[tactic(auto, using(crate::proofs::Laws::Sheets::accepted_name, crate::proofs::Laws::Noted::pushed_count))]
 fn head_differences(left: &[u8], right: &[u8], first: Sheet, second: Sheet) -> Differences
-    requires left_value { (sheet_check left.now ≡ Passed) × (sheet_check right.now ≡ Passed) }
-    requires first_value { (first ≡ read_after Passed left.now) × (second ≡ read_after Passed right.now) }
+    requires { Accepted left.now first × Accepted right.now second }
     ensures { result ≡ noted (differing (differs left.now right.now)
-        (zone_field ∷ charset_field ∷ name_field ∷ [])) }
+        (ZoneNumber ∷ CharacterSet ∷ Name ∷ [])) }
 {
-    let d = with_field(none(), 1, first.zone != second.zone);
-    let d = with_field(d, 2, first.charset != second.charset);
+    let d = Differences::none();
+    let d = d.with(Field::ZoneNumber, first.zone != second.zone);
+    let d = d.with(Field::CharacterSet, first.charset != second.charset);
     let name = name_in(left, first.name_len);
     let other = name_in(right, second.name_len);
-    with_field(d, 3, !is_same_row(name, other))
+    d.with(Field::Name, name != other)
 }
 
+#[tactic(auto, using(crate::proofs::Laws::Noted::pushed_count, crate::proofs::Laws::Noted::differing_bound))]
 // All fields, of two sheets that were read and whose rings were compared.
 pub(crate) fn all_differences(
     left: &[u8],
@@ -117,16 +126,19 @@ pub(crate) fn all_differences(
     second: Sheet,
     ring: Placed,
 ) -> Differences
-    requires left_value { (sheet_check left.now ≡ Passed) × (sheet_check right.now ≡ Passed) }
-    requires first_value { (first ≡ read_after Passed left.now) × (second ≡ read_after Passed right.now) }
+    requires first_value { Accepted left.now first × Accepted right.now second }
     requires ring_value { ring ≡ placed_of (vertices_of left.now) (vertices_of right.now) }
     ensures { result ≡ noted (differences_of left.now right.now) }
 {
     let d = head_differences(left, right, first, second);
-    let d = with_field(d, 4, !same_direction(first.known, second.known));
-    let d = with_field(d, 5, way(ring) == 0);
-    let grid = first.grid;
-    let other = second.grid;
-    let d = with_field(d, 6, tag(grid) != tag(other));
-    with_field(d, 7, !is_same_second(first.second, second.second))
+    let d = d.with(
+        Field::KnownPoint,
+        !same_direction(first.known, second.known),
+    );
+    let d = d.with(Field::Vertices, ring.way() == 0);
+    let d = d.with(Field::WhichGrid, first.grid != second.grid);
+    d.with(
+        Field::SecondPoint,
+        !is_same_second(first.second, second.second),
+    )
 }

@@ -4,15 +4,15 @@
 #![tactic(auto)]
 
 ghost use Rattle.std.specs.Prelude.{◌≡◌};
-ghost use Rattle.answer.specs.declared.Check.TheVariants.{Passed};
-ghost use Rattle.sheet.specs.Sheet.{sheet_check, read_after};
+ghost use Rattle.compare.specs.Differences.{Accepted};
 ghost use Rattle.compare.specs.Comparison.{refused_comparison, compared_after, comparison_of};
 
 pub mod differences;
 pub mod ring;
 
 use crate::differences::{all_differences, ring_in};
-use crate::ring::{place, place_ring, way};
+use crate::ring::place_ring;
+use answer::Refusal;
 use sheet::read::{Sheet, read};
 
 // Number and place as everywhere; the count is the number of fields that differ, and `fields` names them in order, 0
@@ -27,12 +27,12 @@ pub struct Comparison {
     pub fields: [u8; 7],
 }
 
-fn refused(number: u32, place: usize) -> Comparison
-    ensures { result ≡ refused_comparison number place }
+fn refused(refusal: Refusal) -> Comparison
+    ensures { result ≡ refused_comparison refusal }
 {
     Comparison {
-        number: number,
-        place: place,
+        number: refusal.reason.number(),
+        place: refusal.place,
         count: 0,
         way: 0,
         fields: [0; 7],
@@ -40,10 +40,10 @@ fn refused(number: u32, place: usize) -> Comparison
 }
 
 // Two sheets that were read.
+#[tactic(auto, using(crate::proofs::Laws::Sheets::accepted_name, crate::proofs::Laws::Noted::differing_bound))]
 fn compare_read(left: &[u8], right: &[u8], first: Sheet, second: Sheet) -> Comparison
-    requires left_value { (sheet_check left.now ≡ Passed) × (sheet_check right.now ≡ Passed) }
-    requires first_value { (first ≡ read_after Passed left.now) × (second ≡ read_after Passed right.now) }
-    ensures { result ≡ compared_after Passed left.now right.now }
+    requires { Accepted left.now first × Accepted right.now second }
+    ensures { result ≡ compared_after (Ok tt) left.now right.now }
 {
     let ring = place_ring(
         ring_in(left, first.name_len, first.vertex_count),
@@ -53,28 +53,25 @@ fn compare_read(left: &[u8], right: &[u8], first: Sheet, second: Sheet) -> Compa
     let numbers = d.numbers;
     Comparison {
         number: 0,
-        place: place(ring),
+        place: ring.place(),
         count: d.count as u32,
-        way: way(ring),
+        way: ring.way(),
         fields: numbers,
     }
 }
 
 // Any bytes. Each sheet is checked once, the left one first.
+#[tactic(auto, using(crate::proofs::Laws::Sheets::reads), unfolding(crate::specs::Comparison::comparison_of))]
 pub fn compare(left: &[u8], right: &[u8]) -> Comparison
     ensures { result ≡ comparison_of left.now right.now }
 {
     let first = read(left);
-    let answer = first.answer;
-    let number = answer::number(answer);
-    if number != 0 {
-        return refused(number, answer::place(answer));
+    if let Err(refusal) = first.answer {
+        return refused(refusal);
     }
     let second = read(right);
-    let answer = second.answer;
-    let number = answer::number(answer);
-    if number != 0 {
-        return refused(number, answer::place(answer));
+    if let Err(refusal) = second.answer {
+        return refused(refusal);
     }
     compare_read(left, right, first, second)
 }

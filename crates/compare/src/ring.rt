@@ -1,14 +1,13 @@
 // Two rings, by the directions of their vertices. They are read from their sheets' bytes, twelve to a vertex: two
-// decoded polygons would not fit the stack. Here, in order: Placed, way, place; vertex_in, round, met_at, differs,
-// meets, first_meeting, least, first_difference, place_ring. Points of either grid are points of the fine one, and
+// decoded polygons would not fit the stack. Here, in order: Placed (way, place); vertex_in, round, met_at, differs,
+// is_met, meets, first_meeting, first_difference, place_ring. Points of either grid are points of the fine one, and
 // their directions need no grid.
 ghost use Rattle.std.specs.Prelude.{◌≡◌, not, ◌≤◌, ◌<◌};
 ghost use Rattle.sphere.specs.Direction.{is_same_direction};
-ghost use Rattle.polygon.specs.Vertices.{vertex_at};
-ghost use Rattle.compare.specs.Ring.{way_of, place_of, ring_size, ring_of, Sound, round_of, met_at};
-ghost use Rattle.compare.specs.Ring.{is_meeting, first_meeting, least_of, difference_of, placed_of};
+ghost use Rattle.polygon.specs.Vertices.{vertices_count, vertex_at};
+ghost use Rattle.compare.specs.Ring.{way_of, place_of, ring_size, ring_of, Sound, round_of, met_at, differs_at};
+ghost use Rattle.compare.specs.Ring.{is_meeting, first_meeting, difference_of, placed_of};
 
-use answer::Found;
 use big_endian::read::point_at;
 use sphere::direction::same_direction;
 use sphere::point::Point;
@@ -22,26 +21,27 @@ pub enum Placed {
     Backward(usize),
 }
 
-pub fn way(placed: Placed) -> u32
-    ensures { result ≡ way_of placed }
-{
-    match placed {
-        Placed::Apart(_) => 0,
-        Placed::Forward(_) => 1,
-        Placed::Backward(_) => 2,
+impl Placed {
+    pub fn way(self) -> u32
+        ensures { result ≡ way_of self }
+    {
+        match self {
+            Placed::Apart(_) => 0,
+            Placed::Forward(_) => 1,
+            Placed::Backward(_) => 2,
+        }
+    }
+
+    pub fn place(self) -> usize
+        ensures { result ≡ place_of self }
+    {
+        match self {
+            Placed::Apart(place) | Placed::Forward(place) | Placed::Backward(place) => place,
+        }
     }
 }
 
-pub fn place(placed: Placed) -> usize
-    ensures { result ≡ place_of placed }
-{
-    match placed {
-        Placed::Apart(place) => place,
-        Placed::Forward(place) => place,
-        Placed::Backward(place) => place,
-    }
-}
-
+#[tactic(auto, using(crate::proofs::Laws::Ring::ring_point))]
 fn vertex_in(ring: &[u8], i: usize) -> Point
     requires { i < ring_size ring.now }
     ensures { result ≡ vertex_at (ring_of ring.now) i }
@@ -50,6 +50,7 @@ fn vertex_in(ring: &[u8], i: usize) -> Point
 }
 
 // The number j, below 2 n, of n that go round.
+#[tactic(auto, using(std::proofs::lemmas::Bool::Decides::nat_tests), unfolding(crate::specs::Ring::round_of))]
 fn round(n: usize, j: usize) -> usize
     ensures { result ≡ round_of n j }
 {
@@ -60,6 +61,7 @@ fn round(n: usize, j: usize) -> usize
 }
 
 // The right ring's vertex that meets the left's vertex i, where its vertex k meets vertex 0.
+#[tactic(auto, unfolding(crate::specs::Ring::met_at))]
 fn met_at(back: bool, n: usize, k: usize, i: usize) -> usize
     requires { (k < n) × (i < n) × (n ≤ 4096) }
     ensures { result ≡ met_at back n k i }
@@ -80,43 +82,34 @@ fn differs(left: &[u8], right: &[u8], i: usize, j: usize) -> bool
     !same_direction(vertex_in(left, i), vertex_in(right, j))
 }
 
+// Vertex i of the left ring meets the right's that it has to meet.
+#[tactic(auto, using(crate::proofs::Laws::Ring::ring_count, crate::proofs::Laws::Ring::met_below))]
+fn is_met(left: &[u8], right: &[u8], back: bool, k: usize, i: usize) -> bool
+    requires sound { Sound left.now × Sound right.now }
+    requires right_value { (ring_size right.now ≡ ring_size left.now) × (k < ring_size left.now) }
+    requires i_bound { i < ring_size left.now }
+    ensures { result ≡ not (differs_at (ring_of left.now) (ring_of right.now)
+        (met_at back (vertices_count (ring_of left.now)) k) i) }
+{
+    !differs(left, right, i, met_at(back, left.len() / 12, k, i))
+}
+
 // All vertices meet.
 fn meets(left: &[u8], right: &[u8], back: bool, k: usize) -> bool
     requires sound { Sound left.now × Sound right.now }
     requires right_value { (ring_size right.now ≡ ring_size left.now) × (k < ring_size left.now) }
     ensures { result ≡ is_meeting (ring_of left.now) (ring_of right.now) back k }
 {
-    let n = left.len() / 12;
-    for i in 0..n {
-        if differs(left, right, i, met_at(back, n, k, i)) {
-            return false;
-        }
-    }
-    true
+    (0..left.len() / 12).all(|i| is_met(left, right, back, k, i))
 }
 
 // The lowest vertex of the right ring from which all meet.
-fn first_meeting(left: &[u8], right: &[u8], back: bool) -> Found
+fn first_meeting(left: &[u8], right: &[u8], back: bool) -> Option<usize>
     requires sound { Sound left.now × Sound right.now }
     requires right_value { ring_size right.now ≡ ring_size left.now }
     ensures { result ≡ first_meeting (ring_of left.now) (ring_of right.now) back }
 {
-    let n = left.len() / 12;
-    for k in 0..n {
-        if meets(left, right, back, k) {
-            return Found::At(k);
-        }
-    }
-    Found::Nothing
-}
-
-fn least(m: usize, n: usize) -> usize
-    ensures { result ≡ least_of m n }
-{
-    if m < n {
-        return m;
-    }
-    n
+    (0..left.len() / 12).find(|k| meets(left, right, back, *k))
 }
 
 // The first vertex number whose points differ, a missing one included.
@@ -124,16 +117,12 @@ fn first_difference(left: &[u8], right: &[u8]) -> usize
     requires { Sound left.now × Sound right.now }
     ensures { result ≡ difference_of (ring_of left.now) (ring_of right.now) }
 {
-    let n = least(left.len() / 12, right.len() / 12);
-    for i in 0..n {
-        if differs(left, right, i, i) {
-            return i;
-        }
-    }
-    n
+    let n = (left.len() / 12).min(right.len() / 12);
+    (0..n).find(|i| differs(left, right, *i, *i)).unwrap_or(n)
 }
 
 // Where the right ring stands, and which way it runs. Backward is searched only where forward found nothing.
+#[tactic(auto, using(crate::proofs::Laws::Ring::ring_count, std::proofs::lemmas::Bool::Decides::nat_tests), unfolding(crate::specs::Ring::placed_of))]
 pub(crate) fn place_ring(left: &[u8], right: &[u8]) -> Placed
     requires { Sound left.now × Sound right.now }
     ensures { result ≡ placed_of (ring_of left.now) (ring_of right.now) }
@@ -141,12 +130,10 @@ pub(crate) fn place_ring(left: &[u8], right: &[u8]) -> Placed
     if right.len() / 12 != left.len() / 12 {
         return Placed::Apart(first_difference(left, right));
     }
-    let forward = first_meeting(left, right, false);
-    if let Found::At(k) = forward {
+    if let Some(k) = first_meeting(left, right, false) {
         return Placed::Forward(k);
     }
-    let backward = first_meeting(left, right, true);
-    if let Found::At(k) = backward {
+    if let Some(k) = first_meeting(left, right, true) {
         return Placed::Backward(k);
     }
     Placed::Apart(first_difference(left, right))

@@ -2,7 +2,7 @@
 -- entries of one list from number 4k + 2 of the table on before number 4k + 3. Defined, in order: RowOf, Node, Indexed
 -- (the first nodes), Built, IndexOn, no_index; Room, Roomy, Copied (one node more); ConeOn (a cone whose list is on the
 -- stack), Halvable, Allows, HalfOf, LowerOf, SplitOf (a cone that is halved).
-use Rattle.std.specs.Prelude.{◌≡◌, Bool, true, false, List, ℕ, ◌+◌, ◌*◌, ◌-◌, ◌≤◌, ◌<◌, ℤ, length, get_or}
+use Rattle.std.specs.Prelude.{◌≡◌, Bool, true, false, List, ℕ, ◌+◌, ◌*◌, ◌-◌, ◌≤◌, ◌<◌, ℤ, Option, None, Some, length, get_or}
 use Prim.{Unit}
 use Rattle.sphere.specs.declared.point.Point.{Point}
 use Rattle.sphere.specs.Point.{origin}
@@ -12,8 +12,6 @@ use Rattle.azimuths.specs.Sectors.{SectorsOf, MissedIn}
 use Rattle.cones.specs.declared.build.Index.{Index}
 use Rattle.cones.specs.declared.table.Cone.{Cone}
 use Rattle.cones.specs.declared.table.Row.{Row}
-use Rattle.cones.specs.declared.grow.Split.{Split}
-use Rattle.cones.specs.declared.grow.Split.TheVariants.{Whole, Low}
 use Rattle.cones.specs.Cones.{Complete}
 use Rattle.cones.specs.Lists.{Kept}
 
@@ -94,6 +92,6 @@ pub record LowerOf (n : ℕ) (sectors stack : List ℕ) (cone low : Cone) : Type
   pub rest : low.last < cone.last
   pub halvable : Halvable cone (length stack)
 
-abbrev pub SplitOf : ℕ → List ℕ → List ℕ → Cone → Split → Type 0
-SplitOf n sectors stack cone Whole = Unit {0}
-SplitOf n sectors stack cone (Low low) = LowerOf n sectors stack cone low
+abbrev pub SplitOf : ℕ → List ℕ → List ℕ → Cone → Option Cone → Type 0
+SplitOf n sectors stack cone None = Unit {0}
+SplitOf n sectors stack cone (Some low) = LowerOf n sectors stack cone low

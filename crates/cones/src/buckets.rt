@@ -2,27 +2,22 @@
 // mark, raise, fill. All of it is a hint: what is proved is that it stays within the arrays.
 ghost use Rattle.std.specs.Prelude.{◌*◌, ◌≤◌, ◌<◌, length};
 
-use azimuths::sectors::wide;
-
 // Behind the bucket in which a node begins, how many nodes there are up to it.
 fn mark(table: &[u16], nodes: usize, buckets: &mut [u16])
     requires { (nodes * 4 ≤ length table.now) × (nodes < 65536) × (1025 ≤ length buckets.old) }
 {
     for k in 0..nodes {
-        let c = wide(table[k * 4]) / 64;
+        let c = usize::from(table[k * 4]) / 64;
         buckets[c + 1] = (k + 1) as u16;
     }
 }
 
 // Each number is at least the one before.
 fn raise(buckets: &mut [u16]) {
-    let mut most = 0u16;
-    for c in 0..buckets.len() {
-        let number = buckets[c];
-        if most < number {
-            most = number;
-        }
-        buckets[c] = most;
+    let mut most = 0;
+    for number in buckets {
+        most = most.max(*number);
+        *number = most;
     }
 }
 

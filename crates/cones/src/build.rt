@@ -2,7 +2,6 @@
 // grow_roots; Index, build, no_index.
 ghost use Rattle.std.specs.Prelude.{◌≡◌, ◌*◌, ◌≤◌, ◌<◌, length};
 ghost use Rattle.sphere.specs.Point.{limit_of};
-ghost use Rattle.answer.specs.declared.Check.TheVariants.{Passed};
 ghost use Rattle.polygon.specs.Checks.{accept_check};
 ghost use Rattle.polygon.specs.Vertices.{vertices_count};
 ghost use Rattle.cones.specs.Table.{Indexed, Built, no_index};
@@ -22,7 +21,7 @@ fn grow_root(
     table: &mut [u16],
     list: &mut [u16],
     stack: &mut [u16],
-    r: usize,
+    r: u16,
     size: Size,
 ) -> Size
     requires n_bound { (n ≤ 4096) × (n * 2 ≤ length sectors.now) × (n ≤ length stack.old) × (r < 4) }
@@ -32,13 +31,13 @@ fn grow_root(
     let lo = r * 16384;
     let last = lo + 16383;
     let to = first_list(n, sectors, lo, last, stack);
-    let quota = rest(512, 0, size.nodes) / (4 - r);
+    let quota = rest(512, 0, size.nodes) / usize::from(4 - r);
     let cone = Cone {
         from: 0,
-        to: to,
-        lo: lo,
-        last: last,
-        quota: quota,
+        to,
+        lo,
+        last,
+        quota,
         depth: 12,
     };
     grow(n, sectors, table, list, stack, cone, size)
@@ -81,7 +80,7 @@ pub fn build(
     list: &mut [u16],
     stack: &mut [u16],
 ) -> Index
-    requires known_value { (accept_check (limit_of grid) vertices.now known ≡ Passed)
+    requires known_value { (accept_check (limit_of grid) vertices.now known ≡ Ok tt)
         × (vertices_count vertices.now * 2 ≤ length sectors.old)
         × (vertices_count vertices.now ≤ length stack.old) }
     requires table_len_bound { (length table.old < 65536) × (1025 ≤ length buckets.old) }
@@ -95,7 +94,7 @@ pub fn build(
     Index {
         nodes: size.nodes,
         top: size.top,
-        frame: frame,
+        frame,
     }
 }
 

@@ -1,5 +1,5 @@
 // The table of cones: a cone is halved, and its halves, as long as it pays. Here, in order: may_halve, is_worth, share,
-// rest, half_of; Split, lower, upper; grow. What to halve, and how many nodes, are hints: any choice is right.
+// rest, half_of; lower, upper; grow. What to halve, and how many nodes, are hints: any choice is right.
 ghost use Rattle.std.specs.Prelude.{◌≡◌, ◌+◌, ◌*◌, ◌≤◌, ◌<◌, length};
 ghost use Rattle.cones.specs.Lists.{Framed};
 ghost use Rattle.cones.specs.Table.{Indexed, ConeOn, Halvable, Allows, HalfOf, SplitOf};
@@ -13,70 +13,37 @@ fn may_halve(cone: Cone, room: usize) -> bool
     ensures { Allows cone room result }
 {
     let len = cone.to - cone.from;
-    if cone.depth == 0 {
-        return false;
-    }
-    if cone.lo >= cone.last {
-        return false;
-    }
-    if cone.quota < 2 {
-        return false;
-    }
-    if len <= 6 {
-        return false;
-    }
-    if room - cone.to < len {
-        return false;
-    }
-    true
+    cone.depth > 0 && cone.lo < cone.last && cone.quota >= 2 && len > 6 && room - cone.to >= len
 }
 
 // Both halves together have at most three quarters of the edges more. Of more than 2048 edges, at most half of them:
 // the lists of so many are short of room.
 fn is_worth(n: usize, len: usize, both: usize) -> bool {
-    if len > 65535 {
-        return false;
-    }
-    if both > 65535 {
+    if len > 65535 || both > 65535 {
         return false;
     }
     if n > 2048 {
-        return both * 2 <= len * 3;
+        both * 2 <= len * 3
+    } else {
+        both * 4 <= len * 7
     }
-    both * 4 <= len * 7
 }
 
 // The lower half's part of the nodes, by its edges and those of both; at least one for each.
 fn share(quota: usize, kept: usize, both: usize) -> usize {
-    if quota > 65535 {
+    if quota > 65535 || kept > 65535 || both > 65535 {
         return 1;
     }
-    if kept > 65535 {
-        return 1;
-    }
-    if both > 65535 {
-        return 1;
-    }
-    let part = quota * kept / (both + 1);
-    if part == 0 {
-        return 1;
-    }
-    part
+    (quota * kept / (both + 1)).max(1)
 }
 
 // What is left of a quota.
 pub(crate) fn rest(quota: usize, before: usize, after: usize) -> usize {
-    if after < before {
-        return 0;
-    }
-    if quota < after - before {
-        return 0;
-    }
-    quota - (after - before)
+    quota.saturating_sub(after.saturating_sub(before))
 }
 
 // One half of a cone, with its list.
-fn half_of(cone: Cone, lo: usize, last: usize, part: Part, quota: usize) -> Cone
+fn half_of(cone: Cone, lo: u16, last: u16, part: Part, quota: usize) -> Cone
     requires { 0 < cone.depth }
     ensures { (result.from ≡ part.from) × (result.to ≡ part.to) × (result.lo ≡ lo) × (result.last ≡ last)
         × (result.depth + 1 ≡ cone.depth) }
@@ -84,23 +51,16 @@ fn half_of(cone: Cone, lo: usize, last: usize, part: Part, quota: usize) -> Cone
     Cone {
         from: part.from,
         to: part.to,
-        lo: lo,
-        last: last,
-        quota: quota,
+        lo,
+        last,
+        quota,
         depth: cone.depth - 1,
     }
 }
 
-// A cone that is not halved, or the lower half of it.
-#[derive(Clone, Copy)]
-pub enum Split {
-    Whole,
-    Low(Cone),
-}
-
-// The lower half keeps the edges that span one of its azimuths. Of the cone's edges those that it drops are in the
+// The lower half, or none where the cone is not halved. It keeps the edges that span one of its azimuths. Of the cone's edges those that it drops are in the
 // upper one, and those that span the last of its azimuths and the next are in both.
-fn lower(n: usize, sectors: &[u16], stack: &mut [u16], cone: Cone) -> Split
+fn lower(n: usize, sectors: &[u16], stack: &mut [u16], cone: Cone) -> Option<Cone>
     requires { (n * 2 ≤ length sectors.now) × ConeOn n sectors.now stack.old cone }
     ensures { Framed stack.old stack.new cone.to
         × SplitOf n sectors.now stack.new cone result }
@@ -109,21 +69,21 @@ fn lower(n: usize, sectors: &[u16], stack: &mut [u16], cone: Cone) -> Split
     let to = cone.to;
     let lo = cone.lo;
     if !may_halve(cone, stack.len()) {
-        return Split::Whole;
+        return None;
     }
     let mid = lo + (cone.last - lo) / 2;
     let part = sift(n, sectors, lo, mid, mid, stack, from, to);
     let len = to - from;
     let both = len + part.passed;
     if !is_worth(n, len, both) {
-        return Split::Whole;
+        return None;
     }
     let quota = share(cone.quota, part.to - part.from, both);
-    Split::Low(half_of(cone, lo, mid, part, quota))
+    Some(half_of(cone, lo, mid, part, quota))
 }
 
 // The upper half keeps those that span an azimuth after `mid`.
-fn upper(n: usize, sectors: &[u16], stack: &mut [u16], cone: Cone, mid: usize, quota: usize) -> Cone
+fn upper(n: usize, sectors: &[u16], stack: &mut [u16], cone: Cone, mid: u16, quota: usize) -> Cone
     requires n_in_bounds { (n * 2 ≤ length sectors.now) × ConeOn n sectors.now stack.old cone }
     requires halvable { Halvable cone (length stack.old) × (cone.lo ≤ mid) × (mid < cone.last) }
     ensures { Framed stack.old stack.new cone.to
@@ -152,9 +112,8 @@ pub fn grow(
     ensures indexed_2 { Indexed n sectors.now table.new list.new result.nodes result.top }
     ensures framed { Framed stack.old stack.new cone.to }
 {
-    let low = match lower(n, sectors, stack, cone) {
-        Split::Whole => return put_leaf(n, sectors, table, list, stack, cone, size),
-        Split::Low(low) => low,
+    let Some(low) = lower(n, sectors, stack, cone) else {
+        return put_leaf(n, sectors, table, list, stack, cone, size);
     };
     let first = grow(n, sectors, table, list, stack, low, size);
     let quota = rest(cone.quota, size.nodes, first.nodes);

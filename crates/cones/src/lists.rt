@@ -1,10 +1,10 @@
 // Parts of a list of edges: those that span an azimuth of a cone. Here, in order: Tail, filter; Part, sift; first_list.
-ghost use Rattle.std.specs.Prelude.{◌≡◌, ◌+◌, ◌*◌, ◌-◌, ◌≤◌, ◌<◌, length};
+ghost use Rattle.std.specs.Prelude.{◌+◌, ◌*◌, ◌-◌, ◌≤◌, length};
 ghost use Rattle.azimuths.specs.Sectors.{is_missed, MissedIn};
 ghost use Rattle.cones.specs.Cones.{Complete};
 ghost use Rattle.cones.specs.Lists.{Entries, Filtered, Sifted};
 
-use azimuths::sectors::{is_missed, is_passed, wide};
+use azimuths::sectors::{is_missed, is_passed};
 
 // Where what is kept ends; and a hint, how many entries span the azimuth at hand and the next.
 #[derive(Clone, Copy)]
@@ -18,35 +18,30 @@ pub struct Tail {
 fn filter(
     n: usize,
     sectors: &[u16],
-    lo: usize,
-    last: usize,
-    k: usize,
+    lo: u16,
+    last: u16,
+    k: u16,
     list: &mut [u16],
     from: usize,
     to: usize,
 ) -> Tail
-    requires n_in_bounds { (n * 2 ≤ length sectors.now) × (lo ≤ last) × (last < 65536) × (k < 65536) }
+    requires n_in_bounds { (n * 2 ≤ length sectors.now) × (lo ≤ last) }
     requires from_le_to { (from ≤ to) × (to + (to - from) ≤ length list.old) × Entries n list.old from to }
     ensures { Filtered (is_missed sectors.now lo last) list.old list.new from to
         result.end × (result.passed ≤ to - from) }
 {
     let mut end = to;
     let mut passed = 0;
-    let mut e = from;
-    while e < to {
+    for e in from..to {
         let entry = list[e];
         list[end] = entry;
-        let i = wide(entry);
+        let i = usize::from(entry);
         if !is_missed(sectors, lo, last, i) {
             end += 1;
         }
-        passed += is_passed(sectors, k, i);
-        e += 1;
+        passed += usize::from(is_passed(sectors, k, i));
     }
-    Tail {
-        end: end,
-        passed: passed,
-    }
+    Tail { end, passed }
 }
 
 // Where a list stands on the stack of lists; and the same hint.
@@ -61,14 +56,14 @@ pub struct Part {
 pub fn sift(
     n: usize,
     sectors: &[u16],
-    lo: usize,
-    last: usize,
-    k: usize,
+    lo: u16,
+    last: u16,
+    k: u16,
     list: &mut [u16],
     from: usize,
     to: usize,
 ) -> Part
-    requires n_in_bounds { (n * 2 ≤ length sectors.now) × (lo ≤ last) × (last < 65536) × (k < 65536) }
+    requires n_in_bounds { (n * 2 ≤ length sectors.now) × (lo ≤ last) }
     requires from_le_to { (from ≤ to) × (to + (to - from) ≤ length list.old) × Entries n list.old from to }
     ensures { Sifted (is_missed sectors.now lo last) list.old list.new from to result
         × (result.to - result.from ≤ to - from) × (result.passed ≤ to - from) }
@@ -77,8 +72,8 @@ pub fn sift(
     let end = tail.end;
     if end - to == to - from {
         return Part {
-            from: from,
-            to: to,
+            from,
+            to,
             passed: tail.passed,
         };
     }
@@ -90,8 +85,8 @@ pub fn sift(
 }
 
 // All of n edges that span an azimuth from lo to last, from entry 0 on; the end of them.
-pub fn first_list(n: usize, sectors: &[u16], lo: usize, last: usize, list: &mut [u16]) -> usize
-    requires n_bound { (n ≤ 4096) × (n * 2 ≤ length sectors.now) × (lo ≤ last) × (last < 65536) }
+pub fn first_list(n: usize, sectors: &[u16], lo: u16, last: u16, list: &mut [u16]) -> usize
+    requires n_bound { (n ≤ 4096) × (n * 2 ≤ length sectors.now) × (lo ≤ last) }
     requires n_in_bounds { n ≤ length list.old }
     ensures { Complete (MissedIn sectors.now lo last) n list.new 0 result }
 {

@@ -1,7 +1,6 @@
-// A query by the index. Here, in order: least, locate, guess (a node that may be the right one); is_aside, tally_edges.
-ghost use Rattle.std.specs.Prelude.{◌≡◌, ◌*◌, ◌≤◌, ◌<◌, length};
+// A query by the index. Here, in order: locate, guess (a node that may be the right one); is_aside, tally_edges.
+ghost use Rattle.std.specs.Prelude.{◌≡◌, ◌*◌, ◌≤◌, length};
 ghost use Rattle.sphere.specs.Point.{limit_of, Within};
-ghost use Rattle.answer.specs.declared.Check.TheVariants.{Passed};
 ghost use Rattle.polygon.specs.Checks.{accept_check};
 ghost use Rattle.polygon.specs.Vertices.{vertices_count};
 ghost use Rattle.search.specs.Boxes.{Boxed};
@@ -13,7 +12,6 @@ use crate::build::Index;
 use crate::table::row_at;
 use crate::told::tally_near;
 use azimuths::azimuth::azimuth_by;
-use azimuths::sectors::wide;
 use search::arc::arc_between;
 use search::border::tally_arc;
 use search::looked::asks_boxes;
@@ -21,25 +19,16 @@ use search::walk::{Mode, Tally};
 use sphere::orientation::dot;
 use sphere::point::{Grid, Point};
 
-fn least(a: usize, b: usize) -> usize
-    ensures { (result ≤ a) × (result ≤ b) }
-{
-    if a < b {
-        return a;
-    }
-    b
-}
-
 // Of the nodes from `from` on before `to`, which follow each other, where those end that begin by azimuth k.
-fn locate(table: &[u16], nodes: usize, from: usize, to: usize, k: usize) -> usize
+fn locate(table: &[u16], nodes: usize, from: usize, to: usize, k: u16) -> usize
     requires { nodes * 4 ≤ length table.now }
     ensures { result ≤ nodes }
 {
-    let mut high = least(to, nodes);
-    let mut low = least(from, high);
+    let mut high = to.min(nodes);
+    let mut low = from.min(high);
     while low < high {
         let middle = low + (high - low) / 2;
-        if wide(table[middle * 4]) <= k {
+        if table[middle * 4] <= k {
             low = middle + 1;
         } else {
             high = middle;
@@ -49,16 +38,16 @@ fn locate(table: &[u16], nodes: usize, from: usize, to: usize, k: usize) -> usiz
 }
 
 // The same of all nodes, by the bucket that the azimuth is in.
-fn guess(table: &[u16], buckets: &[u16], nodes: usize, k: usize) -> usize
+fn guess(table: &[u16], buckets: &[u16], nodes: usize, k: u16) -> usize
     requires { nodes * 4 ≤ length table.now }
     ensures { result ≤ nodes }
 {
-    let c = k / 64;
+    let c = usize::from(k / 64);
     if c + 1 >= buckets.len() {
         return 0;
     }
-    let from = wide(buckets[c]);
-    let to = wide(buckets[c + 1]);
+    let from = usize::from(buckets[c]);
+    let to = usize::from(buckets[c + 1]);
     locate(table, nodes, from, to, k)
 }
 
@@ -66,10 +55,7 @@ fn guess(table: &[u16], buckets: &[u16], nodes: usize, k: usize) -> usize
 fn is_aside(u: i64, v: i64) -> bool
     ensures { AsideIf u v result }
 {
-    if u != 0 {
-        return true;
-    }
-    v != 0
+    u != 0 || v != 0
 }
 
 // What all edges say of a query, as a search by the boxes does: by a node, where the query is in its cone, and else by
@@ -88,7 +74,7 @@ pub fn tally_edges(
     query: Point,
     mode: Mode,
 ) -> Tally
-    requires known_value { (accept_check (limit_of grid) vertices.now known ≡ Passed) × Within (limit_of grid) query
+    requires known_value { (accept_check (limit_of grid) vertices.now known ≡ Ok tt) × Within (limit_of grid) query
         × Boxed vertices.now boxes.now }
     requires built { Built vertices.now known sectors.now table.now list.now index }
     ensures { result ≡ tally_from vertices.now known query 0 (vertices_count vertices.now) }

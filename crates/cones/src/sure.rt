@@ -39,7 +39,7 @@ fn float_side(normal: Point, floats: Vector, c: Point) -> SureSide
     let right = is_surely(side, false);
     SureSide {
         sure: left | right,
-        left: left,
+        left,
     }
 }
 
@@ -47,8 +47,7 @@ pub fn sure_side(plane: Plane, c: Point) -> SureSide
     requires { Sound plane × Within (limit_of plane.grid) c }
     ensures { Sure plane.normal c result }
 {
-    let grid = plane.grid;
-    match grid {
+    match plane.grid {
         Grid::Coarse => whole_side(plane.normal, c),
         Grid::Fine => float_side(plane.normal, plane.floats, c),
     }

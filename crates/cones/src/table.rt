@@ -1,15 +1,13 @@
 // The table of cones, and one node more in it. Here, in order: Row, row_at; Cone, Size; copy, put_node, has_room,
 // put_leaf.
-ghost use Rattle.std.specs.Prelude.{◌≡◌, ◌+◌, ◌*◌, ◌-◌, ◌≤◌, ◌<◌, length};
+ghost use Rattle.std.specs.Prelude.{◌+◌, ◌*◌, ◌-◌, ◌≤◌, length};
 ghost use Rattle.cones.specs.Table.{RowOf, Indexed, Room, Roomy, Copied, ConeOn};
-
-use azimuths::sectors::{put_number, wide};
 
 // A node: the azimuths from lo to last, and where its list stands.
 #[derive(Clone, Copy)]
 pub struct Row {
-    pub lo: usize,
-    pub last: usize,
+    pub lo: u16,
+    pub last: u16,
     pub from: usize,
     pub to: usize,
 }
@@ -20,10 +18,10 @@ pub fn row_at(table: &[u16], k: usize) -> Row
 {
     let at = k * 4;
     Row {
-        lo: wide(table[at]),
-        last: wide(table[at + 1]),
-        from: wide(table[at + 2]),
-        to: wide(table[at + 3]),
+        lo: table[at],
+        last: table[at + 1],
+        from: usize::from(table[at + 2]),
+        to: usize::from(table[at + 3]),
     }
 }
 
@@ -33,8 +31,8 @@ pub fn row_at(table: &[u16], k: usize) -> Row
 pub struct Cone {
     pub from: usize,
     pub to: usize,
-    pub lo: usize,
-    pub last: usize,
+    pub lo: u16,
+    pub last: u16,
     pub quota: usize,
     pub depth: usize,
 }
@@ -50,10 +48,8 @@ fn copy(stack: &[u16], from: usize, to: usize, list: &mut [u16], at: usize)
     requires { (from ≤ to) × (to ≤ length stack.now) × (at + (to - from) ≤ length list.old) }
     ensures { Copied stack.now list.old list.new from to at }
 {
-    let mut e = from;
-    while e < to {
+    for e in from..to {
         list[at + (e - from)] = stack[e];
-        e += 1;
     }
 }
 
@@ -76,10 +72,10 @@ fn put_node(
     let to = cone.to;
     let end = top + (to - from);
     copy(stack, from, to, list, top);
-    put_number(table, nodes * 4, cone.lo);
-    put_number(table, nodes * 4 + 1, cone.last);
-    put_number(table, nodes * 4 + 2, top);
-    put_number(table, nodes * 4 + 3, end);
+    table[nodes * 4] = cone.lo;
+    table[nodes * 4 + 1] = cone.last;
+    table[nodes * 4 + 2] = top as u16;
+    table[nodes * 4 + 3] = end as u16;
     end
 }
 
@@ -88,16 +84,7 @@ fn has_room(table: usize, list: usize, nodes: usize, top: usize, more: usize) ->
     requires { (nodes * 4 ≤ table) × (top ≤ list) }
     ensures { Roomy table list nodes top more result }
 {
-    if table - nodes * 4 < 4 {
-        return false;
-    }
-    if list > 65535 {
-        return false;
-    }
-    if list - top < more {
-        return false;
-    }
-    true
+    table - nodes * 4 >= 4 && list <= 65535 && list - top >= more
 }
 
 // The same where there is room for it, and its list is short enough to be worth it: a query pays for each entry, and
@@ -118,14 +105,13 @@ pub fn put_leaf(
     let nodes = size.nodes;
     let top = size.top;
     let len = cone.to - cone.from;
-    if len <= n / 6 + 21 {
-        if has_room(table.len(), list.len(), nodes, top, len) {
-            let end = put_node(n, sectors, table, list, stack, cone, nodes, top);
-            return Size {
-                nodes: nodes + 1,
-                top: end,
-            };
+    if len <= n / 6 + 21 && has_room(table.len(), list.len(), nodes, top, len) {
+        let end = put_node(n, sectors, table, list, stack, cone, nodes, top);
+        Size {
+            nodes: nodes + 1,
+            top: end,
         }
+    } else {
+        size
     }
-    size
 }

@@ -3,7 +3,6 @@
 ghost use Rattle.std.specs.Prelude.{◌≡◌, ◌-◌, ◌≤◌, ◌<◌, length};
 ghost use Rattle.integers.specs.Sign.{unit_of};
 ghost use Rattle.sphere.specs.Point.{limit_of, Within};
-ghost use Rattle.answer.specs.declared.Check.TheVariants.{Passed};
 ghost use Rattle.polygon.specs.Checks.{accept_check};
 ghost use Rattle.polygon.specs.Vertices.{vertices_count};
 ghost use Rattle.polygon.specs.Verdict.{is_on_border, way_of};
@@ -14,8 +13,8 @@ ghost use Rattle.cones.specs.Cones.{Complete, Coming};
 use crate::near::gather;
 use crate::sure::sure_side;
 use crate::walk::test_listed;
-use answer::Found;
-use azimuths::sectors::{passage_at, wide};
+use answer::Verdict;
+use azimuths::sectors::passage_at;
 use polygon::vertices::{end_of, vertex_at};
 use search::arc::arc_between;
 use search::walk::{EdgeTest, Tally, counted, tally_by};
@@ -28,12 +27,12 @@ fn way_by(known: bool, query: bool) -> i32
     ensures { result ≡ unit_of (way_by known query) }
 {
     if known == query {
-        return 0;
+        0
+    } else if query {
+        1
+    } else {
+        -1
     }
-    if query {
-        return 1;
-    }
-    -1
 }
 
 // How far a loop over a list has come, and the crossings of all edges up to there and their sum.
@@ -52,22 +51,19 @@ fn tell(
     known: Point,
     query: Point,
     sectors: &[u16],
-    k: usize,
+    k: u16,
     list: &[u16],
     to: usize,
-    told: Told,
+    mut told: Told,
 ) -> Told
-    requires known_value { (accept_check (limit_of grid) vertices.now known ≡ Passed) × Within (limit_of grid) query }
-    requires telling { Telling vertices.now known query sectors.now k × (k < 65536) }
+    requires known_value { (accept_check (limit_of grid) vertices.now known ≡ Ok tt) × Within (limit_of grid) query }
+    requires telling { Telling vertices.now known query sectors.now k }
     requires complete { Complete (Idle vertices.now known query) (vertices_count vertices.now) list.now 0 to
         × Coming vertices.now known query list.now to told }
     ensures { Coming vertices.now known query list.now to result × (told.at ≤ result.at) }
 {
-    let mut e = told.at;
-    let mut crossed = told.crossed;
-    let mut sum = told.sum;
-    while e < to {
-        let i = wide(list[e]);
+    while told.at < to {
+        let i = usize::from(list[told.at]);
         let edge = plane_through(grid, vertex_at(vertices, i), end_of(vertices, i));
         let side = sure_side(edge, query);
         let passage = passage_at(sectors, k, i);
@@ -76,15 +72,11 @@ fn tell(
             break;
         }
         let way = way_by(passage.left, side.left);
-        crossed += counted(way);
-        sum += way;
-        e += 1;
+        told.crossed += counted(way);
+        told.sum += way;
+        told.at += 1;
     }
-    Told {
-        at: e,
-        crossed: crossed,
-        sum: sum,
-    }
+    told
 }
 
 // One edge by all four sides. The arc is made here, so that the way to all other edges need not store it.
@@ -97,7 +89,7 @@ fn test_unsure(
     to: usize,
     i: usize,
 ) -> EdgeTest
-    requires known_value { (accept_check (limit_of grid) vertices.now known ≡ Passed) × Within (limit_of grid) query }
+    requires known_value { (accept_check (limit_of grid) vertices.now known ≡ Ok tt) × Within (limit_of grid) query }
     requires i_bound { (i < vertices_count vertices.now) × NoneBefore vertices.now query i }
     requires complete { Complete (Idle vertices.now known query) (vertices_count vertices.now) list.now 0 to }
     ensures { result ≡ test_by (is_on_border vertices.now query i)
@@ -114,41 +106,35 @@ fn walk_near(
     known: Point,
     query: Point,
     sectors: &[u16],
-    k: usize,
+    k: u16,
     list: &[u16],
     to: usize,
 ) -> Tally
-    requires known_value { (accept_check (limit_of grid) vertices.now known ≡ Passed) × Within (limit_of grid) query }
-    requires telling { Telling vertices.now known query sectors.now k × (k < 65536) }
+    requires known_value { (accept_check (limit_of grid) vertices.now known ≡ Ok tt) × Within (limit_of grid) query }
+    requires telling { Telling vertices.now known query sectors.now k }
     requires complete { Complete (Idle vertices.now known query) (vertices_count vertices.now) list.now 0 to }
     ensures { result ≡ tally_from vertices.now known query 0 (vertices_count vertices.now) }
 {
-    let mut e = 0;
-    let mut crossed: u32 = 0;
-    let mut sum: i32 = 0;
+    let mut told = Told {
+        at: 0,
+        crossed: 0,
+        sum: 0,
+    };
     let found = loop {
-        let come = Told {
-            at: e,
-            crossed: crossed,
-            sum: sum,
-        };
-        let told = tell(grid, vertices, known, query, sectors, k, list, to, come);
-        e = told.at;
-        crossed = told.crossed;
-        sum = told.sum;
-        if e >= to {
-            break Found::Nothing;
+        told = tell(grid, vertices, known, query, sectors, k, list, to, told);
+        if told.at >= to {
+            break None;
         }
-        let i = wide(list[e]);
+        let i = usize::from(list[told.at]);
         let way = match test_unsure(grid, vertices, known, query, list, to, i) {
-            EdgeTest::OnBorder => break Found::At(i),
+            EdgeTest::OnBorder => break Some(i),
             EdgeTest::Way(way) => way,
         };
-        crossed += counted(way);
-        sum += way;
-        e += 1;
+        told.crossed += counted(way);
+        told.sum += way;
+        told.at += 1;
     };
-    tally_by(found, crossed, sum)
+    tally_by(found, told.crossed, told.sum)
 }
 
 // What all edges say, by the entries from `from` on before `to` of a list that is complete for azimuth k, which is the
@@ -159,15 +145,15 @@ pub fn tally_near(
     known: Point,
     query: Point,
     sectors: &[u16],
-    k: usize,
+    k: u16,
     list: &[u16],
     from: usize,
     to: usize,
     near: &mut [u16],
 ) -> Tally
-    requires known_value { (accept_check (limit_of grid) vertices.now known ≡ Passed) × Within (limit_of grid) query
+    requires known_value { (accept_check (limit_of grid) vertices.now known ≡ Ok tt) × Within (limit_of grid) query
         × (to - from ≤ length near.old) }
-    requires telling { Telling vertices.now known query sectors.now k × (k < 65536) }
+    requires telling { Telling vertices.now known query sectors.now k }
     requires complete { Complete (MissedIn sectors.now k k) (vertices_count vertices.now) list.now from to }
     ensures { result ≡ tally_from vertices.now known query 0 (vertices_count vertices.now) }
 {

@@ -14,7 +14,6 @@ ghost use Rattle.search.specs.Walk.{test_by, NoneBefore};
 ghost use Rattle.azimuths.specs.Sectors.{Idle};
 ghost use Rattle.cones.specs.Cones.{Complete, EarlierTell};
 
-use azimuths::sectors::wide;
 use corridors::border::coincident;
 use polygon::vertices::{end_of, vertex_at};
 use search::arc::Arc;
@@ -36,12 +35,10 @@ fn is_border(vertices: &[i32], list: &[u16], to: usize, i: usize) -> bool
     let b = end_of(vertices, i);
     let mut count: u32 = 0;
     for e in 0..to {
-        let j = wide(list[e]);
+        let j = usize::from(list[e]);
         let more = coincident(vertices, a, b, j);
-        if j < i {
-            if more == 1 {
-                return false;
-            }
+        if j < i && more == 1 {
+            return false;
         }
         count += more;
     }
@@ -57,10 +54,8 @@ fn is_on_border(vertices: &[i32], arc: Arc, list: &[u16], to: usize, i: usize, s
     requires side_value { sign_of side ≡ sign_of (orientation_of (start_of vertices.now i) (end_of vertices.now i) arc.to) }
     ensures { result ≡ is_on_border vertices.now arc.to i }
 {
-    if on_edge_by(vertex_at(vertices, i), end_of(vertices, i), arc.to, side) {
-        return is_border(vertices, list, to, i);
-    }
-    false
+    on_edge_by(vertex_at(vertices, i), end_of(vertices, i), arc.to, side)
+        && is_border(vertices, list, to, i)
 }
 
 // What edge i says of the query. Its own two orientations are worked out only where its ends are not strictly on one

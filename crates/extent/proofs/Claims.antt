@@ -7,7 +7,7 @@ use native.Mathlib.Omega.{arith}
 use lib.IntN.{ℤ}
 use Rattle.sphere.specs.declared.point.Point.{Point}
 use Rattle.sphere.specs.Point.{limit_of}
-use Rattle.answer.specs.declared.Check.TheVariants.{Passed}
+use Rattle.std.specs.declared.result.Result.TheVariants.{Ok}
 use Rattle.answer.specs.Answer.{number_of}
 use Rattle.polygon.specs.Vertices.{vertices_count, vertex_at}
 use Rattle.polygon.specs.Pair.{optional_check, optional_answer_of}
@@ -40,13 +40,13 @@ module _ (b : List ℕ) where
   Y = second_of b
 
   -- ---- a verdict comes from a good sheet
-  late : (P : Point) → number_of (sheet_answer_of b P) ≤ 3 → sheet_check b ≡ Passed
+  late : (P : Point) → number_of (sheet_answer_of b P) ≤ 3 → sheet_check b ≡ Ok tt
   unfolding sheet_answer_of
   late P h = after_passed {Is = λ n. 3 < n} (λ n l. l) (sheet_check b) _
       (sheet_numbered (λ n. 3 < n) (λ n l m. omega arith) (λ n l m. omega arith) b) h
 
-  module _ (ok : sheet_check b ≡ Passed) where
-    x : optional_check limit vs X Y ≡ Passed
+  module _ (ok : sheet_check b ≡ Ok tt) where
+    x : optional_check limit vs X Y ≡ Ok tt
     unfolding limit vs X Y
     x = sheet_optional b ok
 

@@ -3,10 +3,11 @@
 -- call). Number, place and count are said by definition, and so is the whole; how tight another box is, is left open.
 use Rattle.std.specs.Prelude.{◌⊎◌, ◌≡◌, Bool, false, cond, ◌&&◌, List, ℕ, ltb, length}
 use Rattle.sphere.specs.declared.point.Point.{Point}
-use Rattle.answer.specs.declared.Answer.{Answer}
-use Rattle.answer.specs.declared.Answer.TheVariants.{Done}
-use Rattle.answer.specs.declared.Check.{Check}
-use Rattle.answer.specs.declared.Check.TheVariants.{Passed}
+use Rattle.std.specs.declared.result.Result.TheVariants.{Ok}
+use Rattle.answer.specs.declared.Reason.TheVariants.{ResultRoom}
+use Rattle.answer.specs.Refusal.{Answer}
+use Rattle.answer.specs.declared.Verdict.TheVariants.{Done}
+use Rattle.answer.specs.Refusal.{Check}
 use Rattle.answer.specs.Answer.{number_of, answer_after}
 use Rattle.answer.specs.Chain.{◌then◌, is_passed, fails_here}
 use Rattle.answer.specs.Buffer.{buffer_after}
@@ -21,10 +22,10 @@ unfoldable pub bounded_of : List ℕ → Bool
 bounded_of b = is_bounded (vertices_of b) (sheet_answer_of b (away_of (vertices_of b)))
 
 unfoldable pub box_check : List ℕ → ℕ → Check
-box_check b room = fails_here 27 24 (ltb room 24) then sheet_check b
+box_check b room = fails_here ResultRoom 24 (ltb room 24) then sheet_check b
 
 abbrev pub box_of : List ℕ → ℕ → Answer
-box_of b room = answer_after (box_check b room) (Done 0)
+box_of b room = answer_after (box_check b room) (Ok (Done 0))
 
 -- 1 where a box of the zone's own is written.
 abbrev pub box_count_of : List ℕ → ℕ → ℕ
@@ -37,5 +38,5 @@ pub record Holds (b : List ℕ) (s : Sides) : Type 0 where
 
 pub record BoxAfter (b before after : List ℕ) : Type 0 where
   pub sides : Sides
-  pub holds : box_check b (length before) ≡ Passed → Holds b sides
+  pub holds : box_check b (length before) ≡ Ok tt → Holds b sides
   pub same : after ≡ buffer_after (box_check b (length before)) (box_bytes sides) before

@@ -65,6 +65,7 @@ fn bounds(vertices: &[i32], sign: i64) -> Point
     }
 }
 
+#[tactic(auto, unfolding(separation::specs::Separation::reverse))]
 fn turned(p: Point) -> Point
     requires { Within unit p }
     ensures { result ≡ reverse p }
@@ -87,24 +88,15 @@ pub(crate) fn sides_of(vertices: &[i32]) -> Sides
 }
 
 // All vertices are strictly on one side of a coordinate plane.
+#[tactic(auto, unfolding(crate::specs::Sides::is_fronted))]
 pub(crate) fn is_fronted(vertices: &[i32]) -> bool
     requires { Gridded fine vertices.now }
     ensures { result ≡ is_fronted vertices.now }
 {
-    if is_ahead(vertices, Point { x: 1, y: 0, z: 0 }) {
-        return true;
-    }
-    if is_ahead(vertices, Point { x: -1, y: 0, z: 0 }) {
-        return true;
-    }
-    if is_ahead(vertices, Point { x: 0, y: 1, z: 0 }) {
-        return true;
-    }
-    if is_ahead(vertices, Point { x: 0, y: -1, z: 0 }) {
-        return true;
-    }
-    if is_ahead(vertices, Point { x: 0, y: 0, z: 1 }) {
-        return true;
-    }
-    is_ahead(vertices, Point { x: 0, y: 0, z: -1 })
+    is_ahead(vertices, Point { x: 1, y: 0, z: 0 })
+        || is_ahead(vertices, Point { x: -1, y: 0, z: 0 })
+        || is_ahead(vertices, Point { x: 0, y: 1, z: 0 })
+        || is_ahead(vertices, Point { x: 0, y: -1, z: 0 })
+        || is_ahead(vertices, Point { x: 0, y: 0, z: 1 })
+        || is_ahead(vertices, Point { x: 0, y: 0, z: -1 })
 }

@@ -11,9 +11,10 @@ use Rattle.sphere.specs.declared.point.Point.{Point}
 use Rattle.sphere.specs.declared.point.Grid.{Grid}
 use Rattle.sphere.specs.declared.point.GridPoint.{GridPoint}
 use Rattle.sphere.specs.Point.{limit_of}
-use Rattle.answer.specs.declared.Answer.TheVariants.{Done}
-use Rattle.answer.specs.declared.Check.{Check}
-use Rattle.answer.specs.declared.Check.TheVariants.{Passed, Failed}
+use Rattle.std.specs.declared.result.Result.TheVariants.{Ok, Err}
+use Rattle.answer.specs.declared.Reason.TheVariants.{CutRecord, OtherGrid, ResultRoom}
+use Rattle.answer.specs.declared.Verdict.TheVariants.{Done}
+use Rattle.answer.specs.Refusal.{Check}
 use Rattle.answer.specs.Answer.{answer_after}
 use Rattle.answer.specs.Chain.{◌then◌, fails_if}
 use Rattle.polygon.specs.Checks.{list_check, accept_check}
@@ -31,9 +32,9 @@ use Rattle.polygon.proofs.Laws.Pair.{judge_none, optional_none}
 use Rattle.judging.proofs.Laws.From.{none_null}
 
 -- A feed succeeds only if its checks pass.
-done_passed : (c : Check) → answer_after c (Done 0) ≡ Done 0 → c ≡ Passed
-done_passed Passed e = refl
-done_passed (Failed n p) e = let z : ◌≡◌ {A = ℕ} 0 1 = cc in absurd (omega arith)
+done_passed : (c : Check) → answer_after c (Ok (Done 0)) ≡ Ok (Done 0) → c ≡ Ok tt
+done_passed (Ok unit) e = refl
+done_passed (Err refusal) e = let z : ◌≡◌ {A = ℕ} 0 1 = cc in absurd (omega arith)
 
 pub feed_equals_single : FeedEqualsSingle
 unfolding feed_of grid_answer_of
@@ -50,9 +51,9 @@ feed_equals_single g vs X h queries buffer e =
 
 module _ (g : Grid) (vs : List ℤ) (X : GridPoint) (h : Grid) (queries buffer : List ℕ) where
   unwritten : (c : Check) → feed_check g vs X h queries (length buffer) ≡ c →
-      (feed_of g vs X h queries (length buffer) ≡ Done 0 → ⊥) → results_after g vs X h queries buffer ≡ buffer
-  unwritten Passed e refused = absurd (refused (feed_done g vs X h queries buffer e).answered)
-  unwritten (Failed n p) e refused = (feed_refused g vs X h queries buffer e).filled
+      (feed_of g vs X h queries (length buffer) ≡ Ok (Done 0) → ⊥) → results_after g vs X h queries buffer ≡ buffer
+  unwritten (Ok unit) e refused = absurd (refused (feed_done g vs X h queries buffer e).answered)
+  unwritten (Err refusal) e refused = (feed_refused g vs X h queries buffer e).filled
 
 pub refused_writes_nothing : RefusedWritesNothing
 refused_writes_nothing g vs X h queries buffer refused =
@@ -62,17 +63,17 @@ pub feed_mixed_exactly : FeedMixedExactly
 unfolding feed_of feed_check grid_check size_check
 feed_mixed_exactly g vs X h queries room =
     let size = size_check queries room in
-    let mixed = fails_if 28 (is_mixed g (X.grid ∷ h ∷ [])) in
+    let mixed = fails_if OtherGrid (is_mixed g (X.grid ∷ h ∷ [])) in
     let accept = accept_check (limit_of g) vs X.point in
     let n = room_needed queries in
     let before : Numbered (Other 28) (size then list_check vs) =
-    (if_numbered 26 (not (eqb (length queries % 12) 0)) (λ e. omega arith)
-    both here_numbered 27 n (ltb room n) (λ e. omega arith))
+    (if_numbered CutRecord (not (eqb (length queries % 12) 0)) (λ e. omega arith)
+    both here_numbered ResultRoom n (ltb room n) (λ e. omega arith))
     both list_other vs in
     rw (
       then_assoc size (list_check vs then mixed) accept,
       then_assoc size (list_check vs) mixed,
-      after_then ((size then list_check vs) then mixed) accept (Done 0),
+      after_then ((size then list_check vs) then mixed) accept (Ok (Done 0)),
     )
     (mixed_after (size then list_check vs) _ _ before
-    (after_numbered accept (Done 0) (accept_other (limit_of g) vs X.point) (λ e. omega arith)))
+    (after_numbered accept (Ok (Done 0)) (accept_other (limit_of g) vs X.point) (λ e. omega arith)))

@@ -7,8 +7,9 @@ use Rattle.sphere.specs.declared.point.Point.{Point}
 use Rattle.sphere.specs.declared.point.Grid.{Grid}
 use Rattle.sphere.specs.declared.point.GridPoint.{GridPoint}
 use Rattle.big_endian.specs.Bytes.{word_at}
-use Rattle.answer.specs.declared.Answer.{Answer}
-use Rattle.answer.specs.declared.Answer.TheVariants.{Done}
+use Rattle.std.specs.declared.result.Result.TheVariants.{Ok}
+use Rattle.answer.specs.Refusal.{Answer}
+use Rattle.answer.specs.declared.Verdict.TheVariants.{Done}
 use Rattle.answer.specs.Answer.{number_of, place_of, count_of}
 use Rattle.answer.specs.Chain.{◌then◌}
 use Rattle.polygon.specs.Checks.{list_check}
@@ -32,13 +33,13 @@ pub record HoldsResults (single : Point → Answer) (queries buffer after : List
 abbrev pub FeedEqualsSingle : Type 0
 FeedEqualsSingle =
     (g : Grid) (vs : List ℤ) (X : GridPoint) (h : Grid) (queries buffer : List ℕ) →
-    feed_of g vs X h queries (length buffer) ≡ Done 0 →
+    feed_of g vs X h queries (length buffer) ≡ Ok (Done 0) →
     HoldsResults (λ P. grid_answer_of g vs X (on h P)) queries buffer (results_after g vs X h queries buffer)
 
 abbrev pub RefusedWritesNothing : Type 0
 RefusedWritesNothing =
     (g : Grid) (vs : List ℤ) (X : GridPoint) (h : Grid) (queries buffer : List ℕ) →
-    (feed_of g vs X h queries (length buffer) ≡ Done 0 → ⊥) → results_after g vs X h queries buffer ≡ buffer
+    (feed_of g vs X h queries (length buffer) ≡ Ok (Done 0) → ⊥) → results_after g vs X h queries buffer ≡ buffer
 
 -- A feed on mixed grids is refused once, and then nothing is written: 28 exactly when 26, 27 and 10 do not hold and the
 -- grids differ.

@@ -10,9 +10,11 @@ use Rattle.sphere.specs.declared.point.GridPoint.{GridPoint}
 use Rattle.sphere.specs.Point.{limit_of}
 use Rattle.big_endian.specs.Bytes.{point_at, word_bytes}
 unfoldable pub use Rattle.big_endian.specs.Bytes.{rows_of as resultsBytes}
-use Rattle.answer.specs.declared.Answer.{Answer}
-use Rattle.answer.specs.declared.Answer.TheVariants.{Done}
-use Rattle.answer.specs.declared.Check.{Check}
+use Rattle.std.specs.declared.result.Result.TheVariants.{Ok}
+use Rattle.answer.specs.declared.Reason.TheVariants.{CutRecord, ResultRoom}
+use Rattle.answer.specs.Refusal.{Answer}
+use Rattle.answer.specs.declared.Verdict.TheVariants.{Done}
+use Rattle.answer.specs.Refusal.{Check}
 use Rattle.answer.specs.Answer.{number_of, place_of, count_of, answer_after}
 use Rattle.answer.specs.Chain.{◌then◌, fails_here, fails_if}
 use Rattle.polygon.specs.Checks.{accept_check}
@@ -40,8 +42,8 @@ result_bytes a = word_bytes (number_of a) ++ (word_bytes (place_of a) ++ word_by
 
 unfoldable pub size_check : List ℕ → ℕ → Check
 size_check queries room =
-    fails_if 26 (not (eqb (length queries % 12) 0))
-    then fails_here 27 (room_needed queries) (ltb room (room_needed queries))
+    fails_if CutRecord (not (eqb (length queries % 12) 0))
+    then fails_here ResultRoom (room_needed queries) (ltb room (room_needed queries))
 
 -- The queries have one grid, h (document 02, P8).
 unfoldable pub feed_check : Grid → List ℤ → GridPoint → Grid → List ℕ → ℕ → Check
@@ -52,7 +54,7 @@ feed_check g vs X h queries room =
 
 -- The feed's own answer: the first refusal, or else success.
 unfoldable pub feed_of : Grid → List ℤ → GridPoint → Grid → List ℕ → ℕ → Answer
-feed_of g vs X h queries room = answer_after (feed_check g vs X h queries room) (Done 0)
+feed_of g vs X h queries room = answer_after (feed_check g vs X h queries room) (Ok (Done 0))
 
 -- ---- the results
 

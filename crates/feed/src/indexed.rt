@@ -2,13 +2,12 @@
 ghost use Rattle.std.specs.Prelude.{◌≡◌, ◌||◌, eqb};
 ghost use Rattle.sphere.specs.Point.{limit_of, is_off_grid, Within};
 ghost use Rattle.sphere.specs.Direction.{is_antipodal};
-ghost use Rattle.answer.specs.declared.Check.TheVariants.{Passed};
 ghost use Rattle.polygon.specs.Pair.{judge_from, optional_check};
 ghost use Rattle.polygon.specs.Verdict.{answer_of};
 ghost use Rattle.search.specs.Boxes.{Boxed};
 ghost use Rattle.cones.specs.Table.{IndexOn};
 
-use answer::Answer;
+use answer::{Answer, Verdict};
 use cones::build::Index;
 use cones::query::tally_edges;
 use judging::judge::{judge_boxed, verdict_on};
@@ -21,13 +20,7 @@ fn is_left_out(grid: Grid, nodes: usize, known: Point, query: Point) -> bool
     requires { Within (limit_of grid) known }
     ensures { result ≡ (eqb nodes 0 || (is_off_grid (limit_of grid) query || is_antipodal known query)) }
 {
-    if nodes == 0 {
-        return true;
-    }
-    if is_off_grid(grid, query) {
-        return true;
-    }
-    antipodal(known, query)
+    nodes == 0 || is_off_grid(grid, query) || antipodal(known, query)
 }
 
 // Those that are left out are judged by the boxes.
@@ -46,7 +39,7 @@ pub fn judge_indexed(
     query: Point,
     mode: Mode,
 ) -> Answer
-    requires second_value { (optional_check (limit_of grid) vertices.now known second ≡ Passed)
+    requires second_value { (optional_check (limit_of grid) vertices.now known second ≡ Ok tt)
         × Boxed vertices.now boxes.now }
     requires index_on { IndexOn vertices.now known sectors.now table.now list.now index }
     ensures { result ≡ answer_of (limit_of grid) vertices.now (judge_from known second query) query }

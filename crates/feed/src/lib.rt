@@ -8,7 +8,6 @@ pub mod indexed;
 ghost use Rattle.std.specs.Prelude.{◌≡◌, ◌+◌, ◌*◌, ◌≤◌, ◌<◌, ltb, length};
 ghost use Rattle.std.proofs.lemmas.List.Edits.{sets};
 ghost use Rattle.sphere.specs.Point.{limit_of};
-ghost use Rattle.answer.specs.declared.Check.TheVariants.{Passed};
 ghost use Rattle.answer.specs.Answer.{place_of};
 ghost use Rattle.polygon.specs.Pair.{optional_check};
 ghost use Rattle.search.specs.Boxes.{Boxed};
@@ -19,7 +18,7 @@ ghost use Rattle.feed.specs.Feed.{query_count, room_needed, result_bytes, result
 ghost use Rattle.feed.specs.Feed.{feed_check, feed_of, results_after};
 
 use crate::indexed::judge_indexed;
-use answer::{Answer, Check};
+use answer::{Answer, Check, Reason, Verdict};
 use big_endian::{read, store};
 use cones::build::{Index, build, no_index};
 use judging::accept::{accept_boxed, no_second};
@@ -28,20 +27,22 @@ use search::walk::Mode;
 use sphere::point::{Grid, GridPoint, Point};
 
 // Whole queries, and room for a result for each of them.
+#[tactic(auto, unfolding(crate::specs::Feed::size_check))]
 pub fn size_check(queries: &[u8], room: usize) -> Check
     ensures { result ≡ size_check queries.now room }
 {
     let needed = queries.len() / 12 * 12;
     if queries.len() % 12 != 0 {
-        return Check::Failed(26, 0);
+        Err(Reason::CutRecord.at(0))
+    } else if room < needed {
+        Err(Reason::ResultRoom.at(needed))
+    } else {
+        Ok(())
     }
-    if room < needed {
-        return Check::Failed(27, needed);
-    }
-    Check::Passed
 }
 
 // All that is checked once for a feed, with `room` bytes for its results; and the boxes.
+#[tactic(auto, unfolding(crate::specs::Feed::feed_check))]
 fn feed_boxed(
     grid: Grid,
     vertices: &[i32],
@@ -57,14 +58,8 @@ fn feed_boxed(
         queries.now room) vertices.now boxes.old) }
 {
     let g = known.grid;
-    match size_check(queries, room) {
-        Check::Passed => {}
-        Check::Failed(number, place) => return Check::Failed(number, place),
-    }
-    match grid_check(vertices, is_mixed(grid, g, queries_grid)) {
-        Check::Passed => {}
-        Check::Failed(number, place) => return Check::Failed(number, place),
-    }
+    size_check(queries, room)?;
+    grid_check(vertices, is_mixed(grid, g, queries_grid))?;
     accept_boxed(grid, vertices, boxes, known.point)
 }
 
@@ -82,10 +77,7 @@ fn store_result(results: &mut [u8], at: usize, answer: Answer)
 pub fn mode_for(size: usize) -> Mode
     ensures { asks_boxes result ≡ ltb 192 size }
 {
-    if size > 192 {
-        return Mode::Boxed;
-    }
-    Mode::Plain
+    if size > 192 { Mode::Boxed } else { Mode::Plain }
 }
 
 // Query i and its result. A query that is refused spoils no other.
@@ -105,7 +97,7 @@ fn judge_one(
     i: usize,
     results: &mut [u8],
 )
-    requires second_value { (optional_check (limit_of grid) vertices.now known second ≡ Passed)
+    requires second_value { (optional_check (limit_of grid) vertices.now known second ≡ Ok tt)
         × Boxed vertices.now boxes.now }
     requires index_on { IndexOn vertices.now known sectors.now table.now list.now index }
     requires i_bound { i < query_count queries.now }
@@ -139,7 +131,7 @@ fn judge_all(
     queries: &[u8],
     results: &mut [u8],
 )
-    requires second_value { (optional_check (limit_of grid) vertices.now known second ≡ Passed)
+    requires second_value { (optional_check (limit_of grid) vertices.now known second ≡ Ok tt)
         × Boxed vertices.now boxes.now }
     requires index_on { IndexOn vertices.now known sectors.now table.now list.now index }
     requires queries_in_bounds { room_needed queries.now ≤ length results.old }
@@ -165,7 +157,7 @@ fn judge_by_index(
     queries: &[u8],
     results: &mut [u8],
 )
-    requires second_value { (optional_check (limit_of grid) vertices.now known second ≡ Passed)
+    requires second_value { (optional_check (limit_of grid) vertices.now known second ≡ Ok tt)
         × Boxed vertices.now boxes.now }
     requires queries_in_bounds { room_needed queries.now ≤ length results.old }
     ensures { results.new ≡ sets results.old 0
@@ -204,7 +196,7 @@ pub fn judge_each(
     queries: &[u8],
     results: &mut [u8],
 )
-    requires second_value { (optional_check (limit_of grid) vertices.now known second ≡ Passed)
+    requires second_value { (optional_check (limit_of grid) vertices.now known second ≡ Ok tt)
         × Boxed vertices.now boxes.now }
     requires queries_in_bounds { room_needed queries.now ≤ length results.old }
     ensures { results.new ≡ sets results.old 0
@@ -250,6 +242,7 @@ pub fn judge_each(
 
 // The feed from one known point: any records and bytes. The queries have one grid. A refusal changes no byte of the
 // results.
+#[tactic(auto, unfolding(crate::specs::Feed::feed_of, crate::specs::Feed::results_after))]
 pub fn judge_feed(
     grid: Grid,
     vertices: &[i32],
@@ -265,7 +258,7 @@ pub fn judge_feed(
 {
     let mut boxes = [0i32; 768];
     let room = results.len();
-    match feed_boxed(
+    feed_boxed(
         grid,
         vertices,
         &mut boxes,
@@ -273,11 +266,8 @@ pub fn judge_feed(
         queries_grid,
         queries,
         room,
-    ) {
-        Check::Passed => {}
-        Check::Failed(number, place) => return Answer::Refused(number, place),
-    }
+    )?;
     let none = no_second();
     judge_each(grid, vertices, &boxes, known.point, none, queries, results);
-    Answer::Done(0)
+    Ok(Verdict::Done(0))
 }

@@ -8,8 +8,9 @@ use Rattle.std.specs.Prelude.{Bool, not, ◌&&◌, cond, List, ℕ, ◌+◌, ◌
 use Rattle.sphere.specs.declared.point.Grid.{Grid}
 use Rattle.sphere.specs.declared.point.Grid.TheVariants.{Coarse, Fine}
 use Rattle.big_endian.specs.Bytes.{byte_at, short_at}
-use Rattle.answer.specs.declared.Check.{Check}
-use Rattle.answer.specs.declared.Check.TheVariants.{Passed}
+use Rattle.std.specs.declared.result.Result.TheVariants.{Ok}
+use Rattle.answer.specs.declared.Reason.TheVariants.{Charset, FieldCut, FieldLength, FieldTag, TrailingBytes}
+use Rattle.answer.specs.Refusal.{Check}
 use Rattle.answer.specs.Chain.{◌then◌, fails_here}
 
 -- ---- one field: a tag, two bytes of length, the body
@@ -25,10 +26,10 @@ field_end b at = at + 3 + short_at b (at + 1)
 -- The field with the given tag and lengths, at `at`: its three head bytes, its tag, its length, its body.
 unfoldable pub field_check : ℕ → (ℕ → Bool) → List ℕ → ℕ → Check
 field_check tag isLength b at =
-    fails_here 20 at (ltb (length b) (at + 3))
-    then fails_here 21 at (not (eqb (byte_at b at) tag))
-    then fails_here 22 at (not (isLength (short_at b (at + 1))))
-    then fails_here 20 at (ltb (length b) (field_end b at))
+    fails_here FieldCut at (ltb (length b) (at + 3))
+    then fails_here FieldTag at (not (eqb (byte_at b at) tag))
+    then fails_here FieldLength at (not (isLength (short_at b (at + 1))))
+    then fails_here FieldCut at (ltb (length b) (field_end b at))
 
 -- ---- where the fields begin. Those with tags 1, 2, 4 and 6 have one length.
 
@@ -78,7 +79,7 @@ is_charset n = leb 1 n && leb n 3
 unfoldable pub charset_check : List ℕ → Check
 charset_check b =
     field_check 2 (is_allowed 1 1 1) b charset_start
-    then fails_here 23 charset_start (not (is_charset (byte_at b (charset_start + 3))))
+    then fails_here Charset charset_start (not (is_charset (byte_at b (charset_start + 3))))
 
 abbrev pub is_name_length : ℕ → Bool
 is_name_length = is_allowed 1 120 1
@@ -98,14 +99,14 @@ five_fields b = zone_check b then charset_check b then name_check b then known_c
 -- ---- and the sixth
 
 unfoldable pub second_field : List ℕ → Check
-second_field b = cond (has_second_point b) (field_check 6 (is_allowed 12 12 1) b (second_start b)) Passed
+second_field b = cond (has_second_point b) (field_check 6 (is_allowed 12 12 1) b (second_start b)) (Ok tt)
 
 -- The fields alone: bytes may follow.
 unfoldable pub sheet_fields : List ℕ → Check
 sheet_fields b = five_fields b then second_field b
 
 unfoldable pub rest_check : List ℕ → Check
-rest_check b = fails_here 24 (sheet_end b) (ltb (sheet_end b) (length b))
+rest_check b = fails_here TrailingBytes (sheet_end b) (ltb (sheet_end b) (length b))
 
 unfoldable pub fields_check : List ℕ → Check
 fields_check b = sheet_fields b then rest_check b

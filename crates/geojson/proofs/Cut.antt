@@ -12,8 +12,10 @@ use lib.ListN.{length, take}
 use lib.Seq.{length-take-le, take_all}
 use Rattle.sphere.specs.declared.point.Point.{Point}
 use Rattle.sphere.specs.declared.point.Grid.{Grid}
-use Rattle.answer.specs.declared.Check.{Check}
-use Rattle.answer.specs.declared.Check.TheVariants.{Passed, Failed}
+use Rattle.std.specs.declared.result.Result.TheVariants.{Ok, Err}
+use Rattle.answer.specs.declared.Reason.TheVariants.{Charset, FieldLength, SheetRoom, VertexList}
+use Rattle.answer.specs.declared.Refusal.{Refusal}
+use Rattle.answer.specs.Refusal.{Check, refused_at, fails}
 use Rattle.answer.specs.Chain.{◌then◌, fails_if, fails_here}
 use Rattle.polygon.specs.Checks.{list_check}
 use Rattle.polygon.specs.Grids.{grid_check}
@@ -26,27 +28,26 @@ use Rattle.sheet.specs.Write.{bytes_needed, input_check, write_check, write_of, 
 -- What the writer says of a list that is too long.
 abbrev too_long : ℕ → List ℕ → Check
 too_long charset name =
-    fails_if 23 (not (is_charset charset)) then fails_if 22 (not (is_name_length (length name))) then Failed 10 0
+    fails_if Charset (not (is_charset charset)) then fails_if FieldLength (not (is_name_length (length name))) then fails VertexList 0
 
 last_false : (a b c : Bool) → c ≡ false → (a && (b && c)) ≡ false
 last_false true true c e = e
 last_false true false c e = refl
 last_false false b c e = refl
 
-stays : (a b rest : Check) → ((a then b then Failed 10 0) then rest) ≡ (a then b then Failed 10 0)
-stays Passed Passed rest = refl
-stays Passed (Failed n p) rest = refl
-stays (Failed n p) b rest = refl
+stays : (a b rest : Check) → ((a then b then fails VertexList 0) then rest) ≡ (a then b then fails VertexList 0)
+stays (Ok first) (Ok second) rest = refl
+stays (Ok unit) (Err refusal) rest = refl
+stays (Err refusal) b rest = refl
 
-record Refusal (c : Check) : Type 0 where
-  number : ℕ
-  place : ℕ
-  is : c ≡ Failed number place
+record Refused (c : Check) : Type 0 where
+  refusal : Refusal
+  is : c ≡ Err refusal
 
-refusal : (a b : Check) → Refusal (a then b then Failed 10 0)
-refusal Passed Passed = record { number = 10; place = 0; is = refl }
-refusal Passed (Failed n p) = record { number = n; place = p; is = refl }
-refusal (Failed n p) b = record { number = n; place = p; is = refl }
+refuses : (a b : Check) → Refused (a then b then fails VertexList 0)
+refuses (Ok first) (Ok second) = record { refusal = refused_at VertexList 0; is = refl }
+refuses (Ok unit) (Err refusal) = record { refusal = refusal; is = refl }
+refuses (Err refusal) b = record { refusal = refusal; is = refl }
 
 module _ (g : Grid) (charset : ℕ) (name : List ℕ) (known : Point) where
   input_long : (vs : List ℤ) → 4096 < length vs / 3 → input_check charset name (on g known) g vs
@@ -60,15 +61,14 @@ module _ (g : Grid) (charset : ℕ) (name : List ℕ) (known : Point) where
   unfolding write_check
   write_long vs room h =
       rw (input_long vs h)
-      (stays (fails_if 23 (not (is_charset charset))) (fails_if 22 (not (is_name_length (length name))))
-      (fails_here 25 (bytes_needed name vs no_second) (ltb room (bytes_needed name vs no_second))))
+      (stays (fails_if Charset (not (is_charset charset))) (fails_if FieldLength (not (is_name_length (length name))))
+      (fails_here SheetRoom (bytes_needed name vs no_second) (ltb room (bytes_needed name vs no_second))))
 
-  refused : Refusal (too_long charset name)
-  refused = refusal (fails_if 23 (not (is_charset charset))) (fails_if 22 (not (is_name_length (length name))))
+  refused : Refused (too_long charset name)
+  refused = refuses (fails_if Charset (not (is_charset charset))) (fails_if FieldLength (not (is_name_length (length name))))
 
   failed : (vs : List ℤ) (room : ℕ) → 4096 < length vs / 3 →
-      write_check charset name (on g known) g vs (on g no_second) room ≡ Failed refused.number
-      refused.place
+      write_check charset name (on g known) g vs (on g no_second) room ≡ Err refused.refusal
   failed vs room h = write_long vs room h ∙ refused.is
 
   same_answer : (vs ws : List ℤ) (room : ℕ) → 4096 < length vs / 3 → 4096 < length ws / 3 →

@@ -12,12 +12,13 @@ use lib.IntN.{ℤ}
 use lib.ListN.{length, get_or, take, drop, length-append}
 use lib.Seq.{sets, sets-eq, length-sets, length-take-le, take_all, take-append-le, take_at, take-take, take-nil}
 use Rattle.sphere.specs.declared.point.Grid.{Grid}
-use Rattle.answer.specs.declared.Found.{Found}
-use Rattle.answer.specs.declared.Found.TheVariants.{Nothing, At}
-use Rattle.answer.specs.declared.Check.{Check}
-use Rattle.answer.specs.declared.Check.TheVariants.{Passed, Failed}
+use Rattle.std.specs.declared.option.Option.{Option}
+use Rattle.std.specs.declared.option.Option.TheVariants.{None, Some}
+use Rattle.std.specs.declared.result.Result.TheVariants.{Ok, Err}
+use Rattle.answer.specs.declared.Reason.TheVariants.{OpenRing, PolygonText, PositionDistant, PositionOutside}
+use Rattle.answer.specs.Refusal.{refused_at}
+use Rattle.answer.specs.Refusal.{Check}
 use Rattle.answer.specs.Chain.{◌then◌, fails_if, fails_at}
-use Rattle.positions.specs.declared.grammar.Reading.TheVariants.{Whole, Dead}
 use Rattle.positions.specs.Text.{start, read}
 use Rattle.angles.specs.declared.point.Position.{Position}
 use Rattle.positions.specs.declared.ring.Ring.{Ring}
@@ -26,16 +27,14 @@ use Rattle.positions.specs.Number.{onward, DigitRun}
 use Rattle.positions.specs.declared.number.Pending.{Pending}
 use Rattle.positions.proofs.Runs.{run_walked}
 use Rattle.positions.specs.Ring.{added_of, check_of, is_same, ring_check, kept_of, first_of, last_of, last_after}
-use Rattle.positions.specs.Ring.{first_outside, first_distant}
+use Rattle.positions.specs.Ring.{empty_ring, first_outside, first_distant}
 use Rattle.positions.proofs.RingLaws.{ring_of, ring_snoc, check_of_ring}
 use Rattle.positions.proofs.Exact.{held_check, held_length, held_same}
 use Rattle.geojson.specs.declared.scan.Reader.{Reader}
-use Rattle.geojson.specs.declared.scan.Scanned.{Scanned}
-use Rattle.geojson.specs.declared.scan.Scanned.TheVariants.{Kept, Refused}
 use Rattle.angles.specs.Point.{numbers_on}
 use Rattle.geojson.specs.Scan.{list_on, text_check, import_check, vertices_on, put_of, step_of, out_of, finish_of}
-use Rattle.geojson.specs.Scan.{scanned_of, Listed}
-use Rattle.geojson.specs.Scan.{scanned_after, start_of}
+use Rattle.geojson.specs.Scan.{Scanned, scanned_of, Listed}
+use Rattle.fields.proofs.Laws.Parts.{passed_value}
 
 -- ---- what the code keeps after i bytes
 
@@ -166,43 +165,33 @@ run_filled g text i k out d f = rw (run_walked text i k d) f
 
 -- ---- the end
 
-never : (n p : ℕ) → Failed n p ≡ Passed → ⊥
-never n p e = let z : ◌≡◌ {A = ℕ} 0 1 = cc in omega arith
-
-four : (f : Found) (a b : Bool) (rest : Check) → (fails_at 31 f then fails_if 32 (not (a && b)) then rest) ≡ Passed →
+four : (f : Option ℕ) (a b : Bool) (rest : Check) → (fails_at PositionOutside f then fails_if OpenRing (not (a && b)) then rest) ≡ Ok tt →
     a ≡ true
-four (At i) a b rest e = absurd (never 31 i e)
-four Nothing true b rest e = refl
-four Nothing false b rest e = absurd (never 32 0 e)
+four (Some i) a b rest e = absurd cc
+four None true b rest e = refl
+four None false b rest e = absurd cc
 
-pub passed_count : (r : Ring) → check_of r ≡ Passed → 4 ≤ r.count
+pub passed_count : (r : Ring) → check_of r ≡ Ok tt → 4 ≤ r.count
 unfolding check_of
 passed_count r e =
     leb-true 4 r.count
-    (four r.outside (leb 4 r.count) (is_same r.first r.last) (fails_at 33 r.distant) e)
+    (four r.outside (leb 4 r.count) (is_same r.first r.last) (fails_at PositionDistant r.distant) e)
 
-pub scan_dead : (text : List ℕ) (i : ℕ) → read text start 0 (length text) ≡ Dead i → Refused 30 i ≡ scanned_of text
+pub scan_dead : (text : List ℕ) (i : ℕ) → read text start 0 (length text) ≡ Err i → Err (refused_at PolygonText i) ≡ scanned_of text
 unfolding scanned_of import_check text_check
 scan_dead text i e = rw e
 
-pub scan_whole : (text : List ℕ) → read text start 0 (length text) ≡ Whole →
+pub scan_whole : (text : List ℕ) → read text start 0 (length text) ≡ Ok tt →
     finish_of (reader_at text (length text)) ≡ scanned_of text
 unfolding scanned_of import_check text_check finish_of
 scan_whole text e =
     rw (e, check_of_ring (walked held text (length text)).done, held_check text, held_length text)
 
-clash : {n number place : ℕ} → Kept n ≡ Refused number place → ⊥
-clash e = let z : ◌≡◌ {A = ℕ} 0 1 = cc in omega arith
+second : (a b : Check) → (a then b) ≡ Ok tt → b ≡ Ok tt
+second (Ok unit) b e = e
+second (Err refusal) b e = absurd cc
 
-pub kept_check : (c : Check) (m n : ℕ) → scanned_after c m ≡ Kept n → (c ≡ Passed) × (n ≡ m)
-kept_check Passed m n e = (refl, cc)
-kept_check (Failed a b) m n e = absurd (clash (sym e))
-
-second : (a b : Check) → (a then b) ≡ Passed → b ≡ Passed
-second Passed b e = e
-second (Failed number place) b e = absurd (never number place e)
-
-passed_ring : (text : List ℕ) → import_check text ≡ Passed → ring_check (positions_of text) ≡ Passed
+passed_ring : (text : List ℕ) → import_check text ≡ Ok tt → ring_check (positions_of text) ≡ Ok tt
 unfolding import_check
 passed_ring text e = second (text_check text) (ring_check (positions_of text)) e
 
@@ -224,15 +213,15 @@ kept_front g out ps f =
 pub listed : (g : Grid) (s : Scanned) (text : List ℕ) (out : List ℤ) → s ≡ scanned_of text →
     Filled g out (walked held text (length text)).done → Listed g s text out
 unfolding scanned_of vertices_on
-listed g (Refused number place) text out e f = f.size
-listed g (Kept n) text out e f =
-    let k = kept_check (import_check text) (length (positions_of text) - 1) n (sym e) in
+listed g (Err refusal) text out e f = tt
+listed g (Ok n) text out e f =
+    let k = passed_value (import_check text) (sym e) in
     let is = held_same text (passed_ring text k.0) in
-    (f.size, rw k.1 (kept_front g out (positions_of text) (rw is at f)))
+    rw k.1 (kept_front g out (positions_of text) (rw is at f))
 
 -- ---- the start
 
-pub start_reader : (text : List ℕ) → start_of ≡ reader_at text 0
+pub start_reader : (text : List ℕ) → ◌≡◌ {A = Reader} (record { pending = fresh; ring = empty_ring }) (reader_at text 0)
 unfolding walked first_of last_of last_after first_outside first_distant
 start_reader text = refl
 

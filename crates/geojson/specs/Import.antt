@@ -5,9 +5,9 @@ use Rattle.std.specs.Prelude.{List, ℕ, ℤ}
 use Rattle.sphere.specs.declared.point.Point.{Point}
 use Rattle.sphere.specs.declared.point.Grid.{Grid}
 use Rattle.sphere.specs.declared.point.Grid.TheVariants.{Coarse}
-use Rattle.answer.specs.declared.Answer.{Answer}
-use Rattle.answer.specs.declared.Check.{Check}
-use Rattle.answer.specs.declared.Check.TheVariants.{Passed, Failed}
+use Rattle.std.specs.declared.result.Result.TheVariants.{Ok, Err}
+use Rattle.answer.specs.Refusal.{Answer}
+use Rattle.answer.specs.Refusal.{Check}
 use Rattle.answer.specs.Answer.{answer_after}
 use Rattle.polygon.specs.Pair.{no_second}
 use Rattle.polygon.specs.GridClaims.{on}
@@ -28,8 +28,8 @@ import_on g text charset name known room =
 
 -- A refusal changes nothing.
 abbrev pub unless_refused : Check → List ℕ → List ℕ → List ℕ
-unless_refused Passed written buffer = written
-unless_refused (Failed number place) written buffer = buffer
+unless_refused (Ok unit) written buffer = written
+unless_refused (Err refusal) written buffer = buffer
 
 unfoldable pub imported_on : Grid → ℕ → List ℕ → ℕ → List ℕ → Point → List ℕ → List ℕ
 imported_on g zone text charset name known buffer =

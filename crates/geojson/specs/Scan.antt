@@ -1,26 +1,29 @@
 -- Document 02, P7: 30 to 33 of a text, and its list of grid numbers on either grid. Defined, in order: list_on, numbers_of;
--- text_check (30), import_check (30 to 33), vertices_on, vertices_of; put_of, start_of, step_of, out_of, finish_of, scanned_of, Listed, Past (the code's).
-use Rattle.std.specs.Prelude.{◌≡◌, cond, List, [], ◌∷◌, ℕ, ◌+◌, ◌-◌, ◌*◌, ◌<◌, min, ltb, ℤ, length, take}
+-- text_check (30), import_check (30 to 33), vertices_on, vertices_of; put_of, step_of, out_of, Scanned, finish_of,
+-- scanned_of, Listed, Past (the code's).
+use Rattle.std.specs.declared.result.Result.{Result}
+use Rattle.std.specs.Prelude.{⊤}
+use Rattle.std.specs.Prelude.{◌≡◌, cond, List, [], ◌∷◌, ℕ, ◌+◌, ◌-◌, ◌*◌, ◌<◌, min, ltb, ℤ, length, take, IfOk}
 use Rattle.std.proofs.lemmas.List.Edits.{sets}
 use Rattle.sphere.specs.declared.point.Grid.{Grid}
 use Rattle.sphere.specs.declared.point.Grid.TheVariants.{Coarse}
-use Rattle.answer.specs.declared.Check.{Check}
-use Rattle.answer.specs.declared.Check.TheVariants.{Passed, Failed}
+use Rattle.std.specs.declared.result.Result.TheVariants.{Ok, Err}
+use Rattle.answer.specs.declared.Reason.TheVariants.{PolygonText}
+use Rattle.answer.specs.declared.Refusal.{Refusal}
+use Rattle.answer.specs.Refusal.{fails}
+use Rattle.answer.specs.Refusal.{Check}
 use Rattle.answer.specs.Chain.{◌then◌}
 use Rattle.positions.specs.declared.grammar.State.{State}
 use Rattle.positions.specs.declared.number.Pending.{Pending}
-use Rattle.positions.specs.declared.grammar.Reading.{Reading}
-use Rattle.positions.specs.declared.grammar.Reading.TheVariants.{Whole, Dead}
 use Rattle.positions.specs.Text.{start, read}
 use Rattle.angles.specs.declared.point.Position.{Position}
 use Rattle.angles.specs.Point.{numbers_on}
 use Rattle.positions.specs.Number.{fresh, pending_of, is_end, position_of, positions_of, held}
 use Rattle.positions.specs.Number.{onward, DigitRun}
-use Rattle.positions.specs.Ring.{ring_check, kept_of, empty_ring, added_of, check_of}
+use Rattle.positions.specs.Ring.{ring_check, kept_of, added_of, check_of}
+use Rattle.fields.specs.Parts.{value_after}
 use Rattle.geojson.specs.declared.ahead.Reached.{Reached}
 use Rattle.geojson.specs.declared.scan.Reader.{Reader}
-use Rattle.geojson.specs.declared.scan.Scanned.{Scanned}
-use Rattle.geojson.specs.declared.scan.Scanned.TheVariants.{Kept, Refused}
 
 -- Three numbers for each position, as a polygon's list has them.
 unfoldable pub list_on : Grid → List Position → List ℤ
@@ -31,9 +34,9 @@ abbrev pub numbers_of : List Position → List ℤ
 numbers_of ps = list_on Coarse ps
 
 -- 30: the text is not one of document 02's.
-abbrev pub unread : Reading → Check
-unread Whole = Passed
-unread (Dead place) = Failed 30 place
+abbrev pub unread : Result ⊤ ℕ → Check
+unread (Ok unit) = Ok tt
+unread (Err place) = fails PolygonText place
 
 unfoldable pub text_check : List ℕ → Check
 text_check text = unread (read text start 0 (length text))
@@ -53,9 +56,6 @@ vertices_of text = vertices_on Coarse text
 unfoldable pub put_of : Grid → List ℤ → ℕ → Position → List ℤ
 put_of g out k p = cond (ltb k 4097) (sets out (k * 3) (list_on g (p ∷ []))) out
 
-abbrev pub start_of : Reader
-start_of = record { pending = fresh; ring = empty_ring }
-
 unfoldable pub step_of : Reader → ℕ → Reader
 step_of r b =
     cond (is_end r.pending b)
@@ -65,21 +65,20 @@ step_of r b =
 unfoldable pub out_of : Grid → Reader → ℕ → List ℤ → List ℤ
 out_of g r b out = cond (is_end r.pending b) (put_of g out r.ring.count (position_of r.pending)) out
 
-abbrev pub scanned_after : Check → ℕ → Scanned
-scanned_after Passed n = Kept n
-scanned_after (Failed number place) n = Refused number place
+-- How many vertices the text has, or a refusal.
+abbrev pub Scanned : Type 0
+Scanned = Result ℕ Refusal
 
 unfoldable pub finish_of : Reader → Scanned
-finish_of r = scanned_after (check_of r.ring) (r.ring.count - 1)
+finish_of r = value_after (check_of r.ring) (r.ring.count - 1)
 
 unfoldable pub scanned_of : List ℕ → Scanned
-scanned_of text = scanned_after (import_check text) (length (positions_of text) - 1)
+scanned_of text = value_after (import_check text) (length (positions_of text) - 1)
 
 -- The list's front holds the vertices, at most 4,097 of them.
 abbrev pub Listed : Grid → Scanned → List ℕ → List ℤ → Type 0
-Listed g (Refused number place) text out = length out ≡ 12291
-Listed g (Kept n) text out =
-    (length out ≡ 12291) × (take (min n 4097 * 3) out ≡ take (min n 4097 * 3) (vertices_on g text))
+Listed g scanned text out =
+    IfOk scanned (λ n. take (min n 4097 * 3) out ≡ take (min n 4097 * 3) (vertices_on g text))
 
 -- Past the decimals from the place i, k of them, where the text stands at s and the number read is p.
 pub record Past (text : List ℕ) (i : ℕ) (s : State) (p : Pending) (r : Reached) : Type 0 where

@@ -3,7 +3,7 @@ ghost use Rattle.std.specs.Prelude.{◌≡◌, ◌≤◌, ◌<◌, length};
 ghost use Rattle.positions.specs.Number.{Small};
 ghost use Rattle.geojson.specs.Scan.{Past};
 
-use positions::decimals::decimals;
+use positions::decimals::{Run, decimals};
 use positions::grammar;
 use positions::grammar::State;
 use positions::number::Pending;
@@ -21,21 +21,17 @@ pub fn ahead(text: &[u8], i: usize, s: State, p: Pending) -> Reached
     requires { (i ≤ length text.now) × (s.at < 76) × (s.ring < 29) × Small p }
     ensures { Past text.now i s p result }
 {
-    if p.unit == 10000000 {
-        if grammar::is_point(s) {
-            let run = decimals(text, i, p);
-            let count = run.count;
-            let pending = run.pending;
-            let state = State {
-                at: s.at,
-                ring: s.ring + count as u64,
-            };
-            return Reached {
-                at: i + count,
-                state: state,
-                pending: pending,
-            };
-        }
+    if p.unit == 10000000 && grammar::is_point(s) {
+        let Run { pending, count } = decimals(text, i, p);
+        let state = State {
+            at: s.at,
+            ring: s.ring + count as u64,
+        };
+        return Reached {
+            at: i + count,
+            state,
+            pending,
+        };
     }
     Reached {
         at: i,

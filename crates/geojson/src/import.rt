@@ -4,7 +4,7 @@ ghost use Rattle.std.specs.Prelude.{◌≡◌, ◌*◌, ◌≤◌, min, length};
 ghost use Rattle.polygon.specs.GridClaims.{on};
 ghost use Rattle.geojson.specs.Import.{plain_write_of, plain_written_to, import_on, imported_on};
 
-use crate::scan::{Scanned, scan};
+use crate::scan::scan;
 use answer::Answer;
 use sheet::write::{write, write_answer};
 use sphere::point::{Grid, GridPoint, Point};
@@ -13,16 +13,13 @@ use sphere::point::{Grid, GridPoint, Point};
 fn list_size(n: usize) -> usize
     ensures { (result ≡ min n 4097 * 3) × (result ≤ 12291) }
 {
-    if n < 4097 { n * 3 } else { 12291 }
+    n.min(4097) * 3
 }
 
 fn on_grid(grid: Grid, p: Point) -> GridPoint
     ensures { result ≡ on grid p }
 {
-    GridPoint {
-        grid: grid,
-        point: p,
-    }
+    GridPoint { grid, point: p }
 }
 
 fn answer_plain(
@@ -60,6 +57,7 @@ fn write_plain(
 }
 
 // What `import` would answer with `room` bytes for the sheet.
+#[tactic(auto, using(crate::proofs::Imports::import_refused, crate::proofs::Imports::import_kept))]
 pub fn import_answer(
     grid: Grid,
     text: &[u8],
@@ -71,16 +69,12 @@ pub fn import_answer(
     ensures { result ≡ import_on grid text.now charset name.now known room }
 {
     let mut list = [0i32; 12291];
-    match scan(grid, text, &mut list) {
-        Scanned::Refused(number, place) => Answer::Refused(number, place),
-        Scanned::Kept(n) => {
-            let size = list_size(n);
-            answer_plain(grid, charset, name, known, &list[..size], room)
-        }
-    }
+    let n = scan(grid, text, &mut list)?;
+    answer_plain(grid, charset, name, known, &list[..list_size(n)], room)
 }
 
 // Writes the sheet of the text's positions. A refusal changes no byte of the buffer.
+#[tactic(auto, using(crate::proofs::Imports::import_refused, crate::proofs::Imports::import_kept, crate::proofs::Imports::buffer_refused, crate::proofs::Imports::buffer_kept))]
 pub fn import(
     grid: Grid,
     text: &[u8],
@@ -95,11 +89,14 @@ pub fn import(
         ≡ imported_on grid zone text.now charset name.now known buffer.old }
 {
     let mut list = [0i32; 12291];
-    match scan(grid, text, &mut list) {
-        Scanned::Refused(number, place) => Answer::Refused(number, place),
-        Scanned::Kept(n) => {
-            let size = list_size(n);
-            write_plain(grid, zone, charset, name, known, &list[..size], buffer)
-        }
-    }
+    let n = scan(grid, text, &mut list)?;
+    write_plain(
+        grid,
+        zone,
+        charset,
+        name,
+        known,
+        &list[..list_size(n)],
+        buffer,
+    )
 }

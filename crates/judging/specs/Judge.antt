@@ -5,11 +5,11 @@ use Rattle.sphere.specs.declared.point.Point.{Point}
 use Rattle.sphere.specs.declared.point.Grid.{Grid}
 use Rattle.sphere.specs.declared.point.GridPoint.{GridPoint}
 use Rattle.sphere.specs.Point.{limit_of}
-use Rattle.answer.specs.declared.Found.TheVariants.{Nothing}
-use Rattle.answer.specs.declared.Check.{Check}
-use Rattle.answer.specs.declared.Check.TheVariants.{Passed, Failed}
-use Rattle.answer.specs.declared.Answer.{Answer}
-use Rattle.answer.specs.declared.Answer.TheVariants.{Boundary}
+use Rattle.std.specs.declared.option.Option.TheVariants.{None}
+use Rattle.std.specs.declared.result.Result.TheVariants.{Ok, Err}
+use Rattle.answer.specs.Refusal.{Check}
+use Rattle.answer.specs.Refusal.{Answer}
+use Rattle.answer.specs.declared.Verdict.TheVariants.{Boundary}
 use Rattle.polygon.specs.Vertices.{vertices_count}
 use Rattle.polygon.specs.Checks.{judge_check}
 use Rattle.polygon.specs.Grids.{is_mixed, grid_check}
@@ -20,13 +20,13 @@ use Rattle.search.specs.declared.walk.Tally.{Tally}
 use Rattle.search.specs.declared.walk.Tally.TheVariants.{Held, Crossed}
 
 abbrev pub verdict_on : Tally → Answer
-verdict_on (Held edge) = Boundary edge
-verdict_on (Crossed crossed sum) = verdict_by Nothing crossed sum
+verdict_on (Held edge) = Ok (Boundary edge)
+verdict_on (Crossed crossed sum) = verdict_by None crossed sum
 
 -- None for a refusal; else of all edges, for a boundary up to and including the edge named.
 abbrev pub looked_after : Check → ℕ → ℕ
-looked_after (Failed number place) looked = 0
-looked_after Passed looked = looked
+looked_after (Err refusal) looked = 0
+looked_after (Ok unit) looked = looked
 
 unfoldable pub looked_of : ℕ → List ℤ → Point → Point → ℕ
 looked_of limit vs X P = looked_after (judge_check limit vs X P) (looked_from vs X P 0 (vertices_count vs))

@@ -17,12 +17,9 @@ pub fn accept_boxed(grid: Grid, vertices: &[i32], boxes: &mut [i32], known: Poin
         × (boxes.new ≡ boxed_after (accept_check (limit_of grid) vertices.now known)
         vertices.now boxes.old) }
 {
-    match accept_check(grid, vertices, known) {
-        Check::Passed => {}
-        Check::Failed(number, place) => return Check::Failed(number, place),
-    }
+    accept_check(grid, vertices, known)?;
     boxes::fill(vertices, boxes);
-    Check::Passed
+    Ok(())
 }
 
 // A point that is all zero is no second reference point.

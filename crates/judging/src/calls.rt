@@ -1,7 +1,8 @@
 // The calls over lists, which take any records of points. Here, in order: judged, judge, looked (one known point),
 // judged_pair, judge_pair, looked_pair (two), choose_second. Each record says its grid, and mixed grids are refused (document 02, P8): a list
 // has its grid beside it.
-ghost use Rattle.std.specs.Prelude.{◌≡◌};
+ghost use Rattle.std.specs.Prelude.{◌≡◌, ◌<◌};
+ghost use Rattle.polygon.specs.Vertices.{vertices_count, vertex_at};
 ghost use Rattle.polygon.specs.Grids.{grid_answer_of, grid_pair_of, grid_choose_of};
 ghost use Rattle.search.specs.Walk.{looked_in};
 ghost use Rattle.judging.specs.Judge.{grid_looked_of, grid_looked_pair_of};
@@ -9,10 +10,11 @@ ghost use Rattle.judging.specs.Judge.{grid_looked_of, grid_looked_pair_of};
 use crate::accept::{accept_boxed, no_second};
 use crate::judge::{Judgement, judge_boxed, unjudged};
 use crate::second::{earliest, pair_boxed};
-use answer::{Answer, Check};
+use answer::{Answer, Reason};
 use polygon::grids::{grid_check, is_mixed, is_mixed_of_three};
+use polygon::vertices::vertex_at;
 use search::walk::Mode;
-use sphere::point::{Grid, GridPoint};
+use sphere::point::{Grid, GridPoint, Point};
 
 // One query, from one known point, in the mode that is asked for.
 fn judged(grid: Grid, vertices: &[i32], known: GridPoint, query: GridPoint, mode: Mode) -> Judgement
@@ -21,14 +23,12 @@ fn judged(grid: Grid, vertices: &[i32], known: GridPoint, query: GridPoint, mode
 {
     let g = known.grid;
     let h = query.grid;
-    match grid_check(vertices, is_mixed(grid, g, h)) {
-        Check::Passed => {}
-        Check::Failed(number, place) => return unjudged(number, place),
+    if let Err(refusal) = grid_check(vertices, is_mixed(grid, g, h)) {
+        return unjudged(refusal);
     }
     let mut boxes = [0i32; 768];
-    match accept_boxed(grid, vertices, &mut boxes, known.point) {
-        Check::Passed => {}
-        Check::Failed(number, place) => return unjudged(number, place),
+    if let Err(refusal) = accept_boxed(grid, vertices, &mut boxes, known.point) {
+        return unjudged(refusal);
     }
     let none = no_second();
     judge_boxed(grid, vertices, &boxes, known.point, none, query.point, mode)
@@ -62,14 +62,12 @@ fn judged_pair(
     let g = known.grid;
     let h = second.grid;
     let k = query.grid;
-    match grid_check(vertices, is_mixed_of_three(grid, g, h, k)) {
-        Check::Passed => {}
-        Check::Failed(number, place) => return unjudged(number, place),
+    if let Err(refusal) = grid_check(vertices, is_mixed_of_three(grid, g, h, k)) {
+        return unjudged(refusal);
     }
     let mut boxes = [0i32; 768];
-    match pair_boxed(grid, vertices, &mut boxes, known.point, second.point) {
-        Check::Passed => {}
-        Check::Failed(number, place) => return unjudged(number, place),
+    if let Err(refusal) = pair_boxed(grid, vertices, &mut boxes, known.point, second.point) {
+        return unjudged(refusal);
     }
     judge_boxed(
         grid,
@@ -108,6 +106,7 @@ pub fn looked_pair(
 }
 
 // The earliest candidate that may be a second known point, by its number. Candidates have one grid.
+#[tactic(auto, unfolding(polygon::specs::Grids::grid_choose_of, polygon::specs::Pair::choose_of))]
 pub fn choose_second(
     grid: Grid,
     vertices: &[i32],
@@ -120,16 +119,21 @@ pub fn choose_second(
 {
     let g = known.grid;
     if candidates.len() % 3 != 0 {
-        return Answer::Refused(10, 0);
+        return Err(Reason::VertexList.at(0));
     }
-    match grid_check(vertices, is_mixed(grid, g, candidates_grid)) {
-        Check::Passed => {}
-        Check::Failed(number, place) => return Answer::Refused(number, place),
-    }
+    grid_check(vertices, is_mixed(grid, g, candidates_grid))?;
     let mut boxes = [0i32; 768];
-    match accept_boxed(grid, vertices, &mut boxes, known.point) {
-        Check::Passed => {}
-        Check::Failed(number, place) => return Answer::Refused(number, place),
-    }
-    earliest(grid, vertices, &boxes, known.point, candidates)
+    accept_boxed(grid, vertices, &mut boxes, known.point)?;
+    let n = candidates.len() / 3;
+    earliest(
+        grid,
+        vertices,
+        &boxes,
+        known.point,
+        n,
+        |i| -> Point
+            requires { i < vertices_count candidates.now }
+            ensures { result ≡ vertex_at candidates.entry.now i }
+        { vertex_at(candidates, i) },
+    )
 }

@@ -3,16 +3,13 @@
 // Document 01, 'What comes back'. The polygon is accepted, with its boxes; what users call is in `calls`.
 ghost use Rattle.std.specs.Prelude.{◌≡◌};
 ghost use Rattle.sphere.specs.Point.{fine, limit_of, Within};
-ghost use Rattle.answer.specs.declared.Check.TheVariants.{Passed};
-ghost use Rattle.answer.specs.declared.Answer.TheVariants.{Refused};
-ghost use Rattle.answer.specs.declared.Found.TheVariants.{Nothing};
 ghost use Rattle.polygon.specs.Pair.{judge_from, optional_check};
 ghost use Rattle.polygon.specs.Verdict.{verdict_by, answer_of};
 ghost use Rattle.search.specs.Boxes.{Boxed};
 ghost use Rattle.search.specs.Walk.{looked_in};
 ghost use Rattle.judging.specs.Judge.{verdict_on, looked_of};
 
-use answer::{Answer, Check};
+use answer::{Answer, Refusal, Verdict};
 use polygon::checks::{far_check, query_check};
 use search::walk::{Mode, Tally, search_edges};
 use sphere::direction::antipodal;
@@ -20,12 +17,13 @@ use sphere::point::{Grid, Point, is_null};
 
 // An even number of crossings means inside.
 fn by_parity(crossed: u32, sum: i32) -> Answer
-    ensures { result ≡ verdict_by Nothing crossed sum }
+    ensures { result ≡ verdict_by None crossed sum }
 {
     if crossed % 2 == 0 {
-        return Answer::Inside(crossed, sum);
+        Ok(Verdict::Inside(crossed, sum))
+    } else {
+        Ok(Verdict::Outside(crossed, sum))
     }
-    Answer::Outside(crossed, sum)
 }
 
 // Boundary, or by parity.
@@ -33,23 +31,22 @@ pub fn verdict_on(tally: Tally) -> Answer
     ensures { result ≡ verdict_on tally }
 {
     match tally {
-        Tally::Held(edge) => Answer::Boundary(edge),
+        Tally::Held(edge) => Ok(Verdict::Boundary(edge)),
         Tally::Crossed(crossed, sum) => by_parity(crossed, sum),
     }
 }
 
 // The point that judges.
+#[tactic(auto, unfolding(polygon::specs::Pair::judge_from))]
 fn judge_from(known: Point, second: Point, query: Point) -> Point
     requires { Within fine known × Within fine query }
     ensures { result ≡ judge_from known second query }
 {
-    if is_null(second) {
-        return known;
+    if !is_null(second) && antipodal(known, query) {
+        second
+    } else {
+        known
     }
-    if antipodal(known, query) {
-        return second;
-    }
-    known
 }
 
 // An answer and, where the mode of the search counts them, how many edges were looked at for it (document 02, P2).
@@ -59,11 +56,11 @@ pub struct Judgement {
     pub looked: u32,
 }
 
-pub fn unjudged(number: u32, place: usize) -> Judgement
-    ensures { (result.answer ≡ Refused number place) × (result.looked ≡ 0) }
+pub fn unjudged(refusal: Refusal) -> Judgement
+    ensures { (result.answer ≡ Err refusal) × (result.looked ≡ 0) }
 {
     Judgement {
-        answer: Answer::Refused(number, place),
+        answer: Err(refusal),
         looked: 0,
     }
 }
@@ -78,25 +75,22 @@ pub fn judge_boxed(
     query: Point,
     mode: Mode,
 ) -> Judgement
-    requires { (optional_check (limit_of grid) vertices.now known second ≡ Passed)
+    requires { (optional_check (limit_of grid) vertices.now known second ≡ Ok tt)
         × Boxed vertices.now boxes.now }
     ensures { (result.answer ≡ answer_of (limit_of grid) vertices.now (judge_from known second query) query)
         × (result.looked ≡ looked_in mode (looked_of (limit_of grid) vertices.now (judge_from known second query)
         query)) }
 {
-    match query_check(grid, query) {
-        Check::Passed => {}
-        Check::Failed(number, place) => return unjudged(number, place),
+    if let Err(refusal) = query_check(grid, query) {
+        return unjudged(refusal);
     }
     let from = judge_from(known, second, query);
-    match far_check(from, query) {
-        Check::Passed => {}
-        Check::Failed(number, place) => return unjudged(number, place),
+    if let Err(refusal) = far_check(from, query) {
+        return unjudged(refusal);
     }
     let searched = search_edges(grid, vertices, boxes, from, query, mode);
-    let tally = searched.tally;
     Judgement {
-        answer: verdict_on(tally),
+        answer: verdict_on(searched.tally),
         looked: searched.looked,
     }
 }

@@ -1,19 +1,19 @@
 // A second reference point (document 02, P4: a second known point), for the query that is antipodal to the first.
 // Here, in order: is_second, second_check (19), pair_boxed, optional_check (10 to 16, 19), earliest. The polygon is
 // checked once: of a candidate only lines 15 and 16 are left to check.
-ghost use Rattle.std.specs.Prelude.{◌≡◌};
+ghost use Rattle.std.specs.Prelude.{◌≡◌, ◌<◌, ℕ};
 ghost use Rattle.sphere.specs.Point.{limit_of};
-ghost use Rattle.answer.specs.declared.Check.TheVariants.{Passed};
+ghost use Rattle.sphere.specs.declared.point.Point.{Point};
+ghost use Rattle.answer.specs.Search.{first_from};
 ghost use Rattle.polygon.specs.Checks.{accept_check};
-ghost use Rattle.polygon.specs.Pair.{is_second, second_check, pair_check, optional_check, earliest_of};
+ghost use Rattle.polygon.specs.Pair.{is_second, second_check, pair_check, optional_check, chosen};
 ghost use Rattle.search.specs.Boxes.{Boxed};
 ghost use Rattle.judging.specs.Accept.{BoxRoom, boxed_after};
 
 use crate::accept::{accept_boxed, no_second};
 use crate::judge::judge_boxed;
-use answer::{Answer, Check};
+use answer::{Answer, Check, Reason, Verdict, fails_if};
 use polygon::checks::accepts;
-use polygon::vertices::vertex_at;
 use search::walk::Mode;
 use sphere::direction::same_direction;
 use sphere::point::{Grid, Point, is_null};
@@ -26,21 +26,18 @@ pub fn is_second(
     known: Point,
     candidate: Point,
 ) -> bool
-    requires { (accept_check (limit_of grid) vertices.now known ≡ Passed) × Boxed vertices.now boxes.now }
+    requires { (accept_check (limit_of grid) vertices.now known ≡ Ok tt) × Boxed vertices.now boxes.now }
     ensures { result ≡ is_second (limit_of grid) vertices.now known candidate }
 {
-    if accepts(grid, vertices, candidate) {
-        if same_direction(known, candidate) {
-            return false;
-        }
-        let none = no_second();
-        let judged = judge_boxed(grid, vertices, boxes, known, none, candidate, Mode::Boxed);
-        let verdict = judged.answer;
-        return answer::number(verdict) == 1;
+    if !accepts(grid, vertices, candidate) || same_direction(known, candidate) {
+        return false;
     }
-    false
+    let none = no_second();
+    let judged = judge_boxed(grid, vertices, boxes, known, none, candidate, Mode::Boxed);
+    answer::number(judged.answer) == 1
 }
 
+#[tactic(auto, unfolding(polygon::specs::Pair::second_check))]
 pub fn second_check(
     grid: Grid,
     vertices: &[i32],
@@ -48,16 +45,17 @@ pub fn second_check(
     known: Point,
     second: Point,
 ) -> Check
-    requires { (accept_check (limit_of grid) vertices.now known ≡ Passed) × Boxed vertices.now boxes.now }
+    requires { (accept_check (limit_of grid) vertices.now known ≡ Ok tt) × Boxed vertices.now boxes.now }
     ensures { result ≡ second_check (limit_of grid) vertices.now known second }
 {
-    if is_second(grid, vertices, boxes, known, second) {
-        return Check::Passed;
-    }
-    Check::Failed(19, 0)
+    fails_if(
+        Reason::SecondPoint,
+        !is_second(grid, vertices, boxes, known, second),
+    )
 }
 
 // The polygon with both points, and its boxes.
+#[tactic(auto, unfolding(polygon::specs::Pair::pair_check))]
 pub(crate) fn pair_boxed(
     grid: Grid,
     vertices: &[i32],
@@ -70,44 +68,41 @@ pub(crate) fn pair_boxed(
         × (boxes.new ≡ boxed_after (accept_check (limit_of grid) vertices.now known)
         vertices.now boxes.old) }
 {
-    match accept_boxed(grid, vertices, boxes, known) {
-        Check::Passed => {}
-        Check::Failed(number, place) => return Check::Failed(number, place),
-    }
+    accept_boxed(grid, vertices, boxes, known)?;
     second_check(grid, vertices, boxes, known, second)
 }
 
 // The polygon with a second point or none: any numbers.
+#[tactic(auto, unfolding(polygon::specs::Pair::optional_check))]
 pub fn optional_check(grid: Grid, vertices: &[i32], known: Point, second: Point) -> Check
     ensures { result ≡ optional_check (limit_of grid) vertices.now known second }
 {
     let mut boxes = [0i32; 768];
-    match accept_boxed(grid, vertices, &mut boxes, known) {
-        Check::Passed => {}
-        Check::Failed(number, place) => return Check::Failed(number, place),
-    }
+    accept_boxed(grid, vertices, &mut boxes, known)?;
     if is_null(second) {
-        return Check::Passed;
+        return Ok(());
     }
     second_check(grid, vertices, &boxes, known, second)
 }
 
-// The earliest candidate that passes, by its number.
-pub(crate) fn earliest(
+// The earliest of n candidates that passes, by its number.
+pub fn earliest<F: Fn(usize) -> Point>(
     grid: Grid,
     vertices: &[i32],
     boxes: &[i32],
     known: Point,
-    candidates: &[i32],
+    n: usize,
+    candidate: F,
 ) -> Answer
-    requires { (accept_check (limit_of grid) vertices.now known ≡ Passed) × Boxed vertices.now boxes.now }
-    ensures { result ≡ earliest_of (limit_of grid) vertices.now known candidates.now }
+    requires accepted { (accept_check (limit_of grid) vertices.now known ≡ Ok tt) × Boxed vertices.now boxes.now }
+    requires callable { (i : ℕ) → i < n → F.pre candidate i }
+    ensures { (points : ℕ → Point) → ((i : ℕ) (p : Point) → i < n → F.post candidate i p → p ≡ points i) →
+        result ≡ chosen (first_from (λ i. is_second (limit_of grid) vertices.now known (points i)) 0 n) }
 {
-    let n = candidates.len() / 3;
     for i in 0..n {
-        if is_second(grid, vertices, boxes, known, vertex_at(candidates, i)) {
-            return Answer::Done(i);
+        if is_second(grid, vertices, boxes, known, candidate(i)) {
+            return Ok(Verdict::Done(i));
         }
     }
-    Answer::Refused(19, 0)
+    Err(Reason::SecondPoint.at(0))
 }

@@ -11,10 +11,10 @@ use lib.IntN.{ℤ}
 use Rattle.sphere.specs.declared.point.Point.{Point}
 use Rattle.sphere.specs.Point.{origin, is_off_grid}
 use Rattle.sphere.proofs.Parity.{◌⊕◌}
-use Rattle.answer.specs.declared.Answer.{Answer}
-use Rattle.answer.specs.declared.Check.TheVariants.{Passed}
-use Rattle.answer.specs.declared.Found.{Found}
-use Rattle.answer.specs.declared.Found.TheVariants.{Nothing, At}
+use Rattle.std.specs.declared.option.Option.{Option}
+use Rattle.std.specs.declared.option.Option.TheVariants.{None, Some}
+use Rattle.std.specs.declared.result.Result.TheVariants.{Ok}
+use Rattle.answer.specs.Refusal.{Answer}
 use Rattle.answer.specs.Answer.{number_of}
 use Rattle.polygon.specs.Checks.{accept_check, query_check, judge_check}
 use Rattle.polygon.specs.Verdict.{boundary_of, answer_of}
@@ -30,12 +30,12 @@ low : {n : ℕ} → (n ≡ 1) ⊎ (n ≡ 2) → n < 3
 low (inl e) = omega (arith, e)
 low (inr e) = omega (arith, e)
 
-below : (f : Found) (odd : Bool) → number_by f odd < 3 → f ≡ Nothing
-below (At edge) odd h = absurd (omega (arith, h))
-below Nothing odd h = refl
+below : (f : Option ℕ) (odd : Bool) → number_by f odd < 3 → f ≡ None
+below (Some edge) odd h = absurd (omega (arith, h))
+below None odd h = refl
 
 -- ---- a query that gets inside or outside from a reference point with a second one or none
-module _ (limit : ℕ) (vs : List ℤ) (X X' P : Point) (x : optional_check limit vs X X' ≡ Passed)
+module _ (limit : ℕ) (vs : List ℤ) (X X' P : Point) (x : optional_check limit vs X X' ≡ Ok tt)
     (n : InOrOut (optional_answer_of limit vs X X' P)) where
   few : number_of (optional_answer_of limit vs X X' P) < 3
   few = low n
@@ -43,18 +43,18 @@ module _ (limit : ℕ) (vs : List ℤ) (X X' P : Point) (x : optional_check limi
   fair : number_of (optional_answer_of limit vs X X' P) ≡ 18 → ⊥
   fair e = omega (arith, few, e)
 
-  judged : query_check limit P ≡ Passed
+  judged : query_check limit P ≡ Ok tt
   unfolding query_check answer_of judge_check
   judged = go (is_off_grid limit P) refl
     where
       refused : is_off_grid limit P ≡ true → number_of (answer_of limit vs (judge_from X X' P) P) ≡ 17
       refused h = rw (judge_accepted limit vs X X' x P, h)
 
-      go : (b : Bool) → is_off_grid limit P ≡ b → query_check limit P ≡ Passed
+      go : (b : Bool) → is_off_grid limit P ≡ b → query_check limit P ≡ Ok tt
       go true h = absurd (omega (arith, few, ap number_of (optional_judged limit vs X X' P x) ∙ refused h))
       go false h = rw h
 
-  clear : boundary_of vs P ≡ Nothing
+  clear : boundary_of vs P ≡ None
   unfolding U
   clear =
       let e = number_optional limit vs X X' x P judged fair in
@@ -107,7 +107,7 @@ agreement limit vs X Y P Q x y xP yP xQ yQ =
     (optional_answer_of limit vs X origin Q) (optional_answer_of limit vs Y origin Q)
     (to X x P) (to Y y P) (to X x Q) (to Y y Q) both
   where
-    to : (U : Point) → accept_check limit vs U ≡ Passed → (P : Point) →
+    to : (U : Point) → accept_check limit vs U ≡ Ok tt → (P : Point) →
         number_of (optional_answer_of limit vs U origin P) ≡ number_of (answer_of limit vs U P)
     to U u P = ap number_of (judged_alone limit vs U u P)
 
@@ -115,6 +115,6 @@ agreement limit vs X Y P Q x y xP yP xQ yQ =
     carry e (inl h) = inl (e ∙ h)
     carry e (inr h) = inr (e ∙ h)
 
-    back : (U : Point) (u : accept_check limit vs U ≡ Passed) (P : Point) → InOrOut (answer_of limit vs U P) →
+    back : (U : Point) (u : accept_check limit vs U ≡ Ok tt) (P : Point) → InOrOut (answer_of limit vs U P) →
         InOrOut (optional_answer_of limit vs U origin P)
     back U u P n = carry (to U u P) n

@@ -11,12 +11,13 @@ use Rattle.sphere.specs.declared.point.Point.{Point}
 use Rattle.sphere.specs.declared.point.Grid.{Grid}
 use Rattle.sphere.specs.declared.point.Grid.TheVariants.{Coarse, Fine}
 use Rattle.sphere.specs.Point.{limit_of}
-use Rattle.answer.specs.declared.Found.{Found}
-use Rattle.answer.specs.declared.Found.TheVariants.{Nothing, At}
-use Rattle.answer.specs.declared.Answer.{Answer}
-use Rattle.answer.specs.declared.Answer.TheVariants.{Refused}
-use Rattle.answer.specs.declared.Check.{Check}
-use Rattle.answer.specs.declared.Check.TheVariants.{Passed, Failed}
+use Rattle.std.specs.declared.option.Option.{Option}
+use Rattle.std.specs.declared.option.Option.TheVariants.{None, Some}
+use Rattle.std.specs.declared.result.Result.TheVariants.{Ok, Err}
+use Rattle.answer.specs.declared.Refusal.{Refusal}
+use Rattle.answer.specs.declared.Reason.TheVariants.{OtherGrid, VertexList}
+use Rattle.answer.specs.Refusal.{Answer}
+use Rattle.answer.specs.Refusal.{Check}
 use Rattle.answer.specs.Search.{first_from}
 use Rattle.polygon.specs.Vertices.{vertices_count, vertex_at}
 use Rattle.answer.specs.Answer.{number_of, answer_after}
@@ -38,8 +39,8 @@ use Rattle.polygon.proofs.Demand2.{demand-2, demand-2-pair}
 use Rattle.polygon.proofs.Demand3.{demand-3, demand-3-pair}
 
 -- ---- 28
-whole_other : (cs : List ℤ) → Numbered (Other 28) (fails_if 10 (not (is_whole cs)))
-whole_other cs = if_numbered 10 (not (is_whole cs)) (λ e. omega arith)
+whole_other : (cs : List ℤ) → Numbered (Other 28) (fails_if VertexList (not (is_whole cs)))
+whole_other cs = if_numbered VertexList (not (is_whole cs)) (λ e. omega arith)
 
 module _ (limit : ℕ) (vs : List ℤ) where
   answer_other : (X P : Point) → Other 28 (number_of (answer_of limit vs X P))
@@ -55,13 +56,13 @@ module _ (limit : ℕ) (vs : List ℤ) where
   choose_other : (X : Point) (cs : List ℤ) → Other 28 (number_of (choose_of limit vs X cs))
   unfolding choose_of earliest_of
   choose_other X cs =
-      after_numbered (fails_if 10 (not (is_whole cs)) then accept_check limit vs X) (earliest_of limit vs X cs)
+      after_numbered (fails_if VertexList (not (is_whole cs)) then accept_check limit vs X) (earliest_of limit vs X cs)
       (whole_other cs both accept_other limit vs X)
       (go (first_from (λ i. is_second limit vs X (vertex_at cs i)) 0 (vertices_count cs)))
     where
-      go : (f : Found) → Other 28 (number_of (chosen f))
-      go Nothing e = omega arith
-      go (At place) e = omega arith
+      go : (f : Option ℕ) → Other 28 (number_of (chosen f))
+      go None e = omega arith
+      go (Some place) e = omega arith
 
 pub mixed_exactly_holds : MixedExactly
 unfolding grid_answer_of grid_pair_of grid_choose_of grid_check
@@ -70,8 +71,8 @@ mixed_exactly_holds = (
   λ g vs X Y P.
       mixed_after (list_check vs) _ _ (list_other vs) (pair_other (limit_of g) vs X.point Y.point P.point),
   λ g vs X h cs.
-      let whole = fails_if 10 (not (is_whole cs)) in
-      rw (then_assoc whole (list_check vs) (fails_if 28 (is_mixed g (X.grid ∷ h ∷ []))))
+      let whole = fails_if VertexList (not (is_whole cs)) in
+      rw (then_assoc whole (list_check vs) (fails_if OtherGrid (is_mixed g (X.grid ∷ h ∷ []))))
       (mixed_after (whole then list_check vs) _ _ (whole_other cs both list_other vs)
       (choose_other (limit_of g) vs X.point cs)),
 )
@@ -87,10 +88,10 @@ same_thrice Coarse = refl
 same_thrice Fine = refl
 
 -- What follows a check that it begins with.
-again : (c : Check) (answer : Check → Answer) → ((n p : ℕ) → answer (Failed n p) ≡ Refused n p) →
-    answer_after (c then Passed) (answer c) ≡ answer c
-again Passed answer h = refl
-again (Failed number place) answer h = sym (h number place)
+again : (c : Check) (answer : Check → Answer) → ((refusal : Refusal) → answer (Err refusal) ≡ Err refusal) →
+    answer_after (c then (Ok tt)) (answer c) ≡ answer c
+again (Ok unit) answer h = refl
+again (Err refusal) answer h = sym (h refusal)
 
 module _ (limit : ℕ) (vs : List ℤ) where
   -- Lines 11 to 16, after line 10.
@@ -99,31 +100,31 @@ module _ (limit : ℕ) (vs : List ℤ) where
       (c then beyond_check limit vs then null_check vs then same_check vs then antipodal_check vs)
       then reference_check limit X then circle_check vs X
 
-  listed_answer : (X P : Point) → answer_after (list_check vs then Passed) (answer_of limit vs X P) ≡ answer_of limit vs X P
+  listed_answer : (X P : Point) → answer_after (list_check vs then (Ok tt)) (answer_of limit vs X P) ≡ answer_of limit vs X P
   unfolding answer_of judge_check accept_check polygon_check
   listed_answer X P =
       again (list_check vs) (λ c. answer_after (rest c X then query_check limit P then far_check X P) (verdict_of vs X P))
-      (λ n p. refl)
+      (λ refusal. refl)
 
   listed_pair : (X Y P : Point) →
-      answer_after (list_check vs then Passed) (pair_answer_of limit vs X Y P) ≡ pair_answer_of limit vs X Y P
+      answer_after (list_check vs then (Ok tt)) (pair_answer_of limit vs X Y P) ≡ pair_answer_of limit vs X Y P
   unfolding pair_answer_of pair_check accept_check polygon_check
   listed_pair X Y P =
       again (list_check vs)
-      (λ c. answer_after (rest c X then second_check limit vs X Y) (answer_of limit vs (judge_from X Y P) P)) (λ n p. refl)
+      (λ c. answer_after (rest c X then second_check limit vs X Y) (answer_of limit vs (judge_from X Y P) P)) (λ refusal. refl)
 
   listed_choose : (X : Point) (cs : List ℤ) →
-      answer_after (fails_if 10 (not (is_whole cs)) then list_check vs then Passed) (choose_of limit vs X cs)
+      answer_after (fails_if VertexList (not (is_whole cs)) then list_check vs then (Ok tt)) (choose_of limit vs X cs)
       ≡ choose_of limit vs X cs
   unfolding choose_of accept_check polygon_check
-  listed_choose X cs = go (fails_if 10 (not (is_whole cs)))
+  listed_choose X cs = go (fails_if VertexList (not (is_whole cs)))
     where
       go : (whole : Check) →
-          answer_after (whole then list_check vs then Passed)
+          answer_after (whole then list_check vs then (Ok tt))
           (answer_after (whole then rest (list_check vs) X) (earliest_of limit vs X cs))
           ≡ answer_after (whole then rest (list_check vs) X) (earliest_of limit vs X cs)
-      go Passed = again (list_check vs) (λ c. answer_after (rest c X) (earliest_of limit vs X cs)) (λ n p. refl)
-      go (Failed number place) = refl
+      go (Ok unit) = again (list_check vs) (λ c. answer_after (rest c X) (earliest_of limit vs X cs)) (λ refusal. refl)
+      go (Err refusal) = refl
 
 pub one_grid_holds : OneGrid
 unfolding grid_answer_of grid_pair_of grid_choose_of grid_check

@@ -13,10 +13,10 @@ use Rattle.sphere.specs.declared.point.Point.{Point}
 use Rattle.sphere.specs.Direction.{is_antipodal}
 use Rattle.sphere.proofs.Parity.{◌⊕◌}
 use Rattle.sphere.proofs.Laws.OnEdge.{off→not-on}
-use Rattle.answer.specs.declared.Found.{Found}
-use Rattle.answer.specs.declared.Found.TheVariants.{Nothing, At}
-use Rattle.answer.specs.declared.Answer.TheVariants.{Inside, Outside}
-use Rattle.answer.specs.declared.Check.TheVariants.{Passed}
+use Rattle.std.specs.declared.option.Option.{Option}
+use Rattle.std.specs.declared.option.Option.TheVariants.{None, Some}
+use Rattle.std.specs.declared.result.Result.TheVariants.{Ok}
+use Rattle.answer.specs.declared.Verdict.TheVariants.{Inside, Outside}
 use Rattle.polygon.specs.Vertices.{vertices_count, start_of, end_of}
 use Rattle.polygon.specs.Border.{is_border}
 use Rattle.answer.specs.Answer.{number_of, place_of}
@@ -32,40 +32,40 @@ use Rattle.polygon.proofs.Laws.Pair.{antipodal→eighteen, judge_accepted, optio
 use Rattle.polygon.proofs.Potential.{arc, Clears}
 
 -- ---- the number and the place of a verdict
-abbrev pub number_by : Found → Bool → ℕ
-number_by (At edge) odd = 3
-number_by Nothing odd = cond odd 2 1
+abbrev pub number_by : Option ℕ → Bool → ℕ
+number_by (Some edge) odd = 3
+number_by None odd = cond odd 2 1
 
-number_by_lem : (f : Found) (c : ℕ) (s : ℤ) (odd : Bool) → c % 2 ≡ cond odd 1 0 →
+number_by_lem : (f : Option ℕ) (c : ℕ) (s : ℤ) (odd : Bool) → c % 2 ≡ cond odd 1 0 →
     number_of (verdict_by f c s) ≡ number_by f odd
-number_by_lem (At edge) c s odd h = refl
-number_by_lem Nothing c s true h = rw h
-number_by_lem Nothing c s false h = rw h
+number_by_lem (Some edge) c s odd h = refl
+number_by_lem None c s true h = rw h
+number_by_lem None c s false h = rw h
 
 -- A verdict by parity has no place.
-pub nowhere : (even : Bool) (c : ℕ) (s : ℤ) → place_of (cond even (Inside c s) (Outside c s)) ≡ 0
+pub nowhere : (even : Bool) (c : ℕ) (s : ℤ) → place_of (cond even (Ok (Inside c s)) (Ok (Outside c s))) ≡ 0
 nowhere true c s = refl
 nowhere false c s = refl
 
-pub place_by : (f : Found) (c d : ℕ) (s t : ℤ) → place_of (verdict_by f c s) ≡ place_of (verdict_by f d t)
-place_by (At edge) c d s t = refl
-place_by Nothing c d s t = nowhere (eqb (c % 2) 0) c s ∙ sym (nowhere (eqb (d % 2) 0) d t)
+pub place_by : (f : Option ℕ) (c d : ℕ) (s t : ℤ) → place_of (verdict_by f c s) ≡ place_of (verdict_by f d t)
+place_by (Some edge) c d s t = refl
+place_by None c d s t = nowhere (eqb (c % 2) 0) c s ∙ sym (nowhere (eqb (d % 2) 0) d t)
 
 larger : (m n : ℕ) → m < n → n ≡ m → ⊥
 larger m n h e = omega arith
 
 -- ---- an accepted query is judged
 module _ (limit : ℕ) (vs : List ℤ) (X P : Point) where
-  pub judge_passed : accept_check limit vs X ≡ Passed → query_check limit P ≡ Passed → is_antipodal X P ≡ false →
-      judge_check limit vs X P ≡ Passed
+  pub judge_passed : accept_check limit vs X ≡ Ok tt → query_check limit P ≡ Ok tt → is_antipodal X P ≡ false →
+      judge_check limit vs X P ≡ Ok tt
   unfolding judge_check far_check
   judge_passed a q near = rw (a, q, near)
 
-  pub answer_judged : judge_check limit vs X P ≡ Passed → answer_of limit vs X P ≡ verdict_of vs X P
+  pub answer_judged : judge_check limit vs X P ≡ Ok tt → answer_of limit vs X P ≡ verdict_of vs X P
   unfolding answer_of
   answer_judged h = rw h
 
-  pub number_judged : judge_check limit vs X P ≡ Passed →
+  pub number_judged : judge_check limit vs X P ≡ Ok tt →
       number_of (answer_of limit vs X P) ≡ number_by (boundary_of vs P) (arc vs X P)
   unfolding verdict_of crossings_of
   number_judged h =
@@ -74,8 +74,8 @@ module _ (limit : ℕ) (vs : List ℤ) (X P : Point) where
       (count_odd (is_crossed vs X P) 0 (vertices_count vs))
 
 -- ---- a query that does not get 18 from a reference point with a second one or none
-module _ (limit : ℕ) (vs : List ℤ) (X Y P : Point) (x : optional_check limit vs X Y ≡ Passed)
-    (p : query_check limit P ≡ Passed) (fair : number_of (optional_answer_of limit vs X Y P) ≡ 18 → ⊥) where
+module _ (limit : ℕ) (vs : List ℤ) (X Y P : Point) (x : optional_check limit vs X Y ≡ Ok tt)
+    (p : query_check limit P ≡ Ok tt) (fair : number_of (optional_answer_of limit vs X Y P) ≡ 18 → ⊥) where
   pub near : is_antipodal (judge_from X Y P) P ≡ false
   near = go (is_antipodal (judge_from X Y P) P) refl
     where
@@ -84,7 +84,7 @@ module _ (limit : ℕ) (vs : List ℤ) (X Y P : Point) (x : optional_check limit
           ∙ antipodal→eighteen limit vs (judge_from X Y P) P (judge_accepted limit vs X Y x P) p e))
       go false e = refl
 
-  pub pair_passed : judge_check limit vs (judge_from X Y P) P ≡ Passed
+  pub pair_passed : judge_check limit vs (judge_from X Y P) P ≡ Ok tt
   pair_passed = judge_passed limit vs (judge_from X Y P) P (judge_accepted limit vs X Y x P) p near
 
 -- ---- a point that is accepted as reference
@@ -94,16 +94,16 @@ module _ (limit : ℕ) (vs : List ℤ) where
       let l : i < vertices_count vs = omega arith in
       ap (λ held. held && is_border vs i) (off→not-on (start_of vs i) (end_of vs i) Y (a.off_circle i l))
 
-  clears_none : (Y : Point) → Clears vs Y → boundary_of vs Y ≡ Nothing
+  clears_none : (Y : Point) → Clears vs Y → boundary_of vs Y ≡ None
   unfolding boundary_of
   clears_none Y clear = none_first (is_on_border vs Y) 0 (vertices_count vs) clear
 
   pub record Called (X Y : Point) (n : ℕ) : Type 0 where
     pub near : is_antipodal X Y ≡ false
-    pub parity : number_by Nothing (arc vs X Y) ≡ n
+    pub parity : number_by None (arc vs X Y) ≡ n
 
   -- what X calls Y, if that is not 18
-  pub called : (X Y : Point) (n : ℕ) → accept_check limit vs X ≡ Passed → accept_check limit vs Y ≡ Passed → n < 18 →
+  pub called : (X Y : Point) (n : ℕ) → accept_check limit vs X ≡ Ok tt → accept_check limit vs Y ≡ Ok tt → n < 18 →
       number_of (answer_of limit vs X Y) ≡ n → Called X Y n
   unfolding answer_of judge_check far_check
   called X Y n x y small e = go (is_antipodal X Y) refl
@@ -121,18 +121,18 @@ module _ (limit : ℕ) (vs : List ℤ) where
       }
 
 -- ---- from the parities to the numbers
-pub three_parities : (f : Found) (a b c : Bool) → (f ≡ Nothing → c ≡ (a ⊕ b)) → number_by Nothing a ≡ 1 →
+pub three_parities : (f : Option ℕ) (a b c : Bool) → (f ≡ None → c ≡ (a ⊕ b)) → number_by None a ≡ 1 →
     number_by f c ≡ number_by f b
-three_parities (At edge) a b c h e = refl
-three_parities Nothing true b c h e = absurd (larger 1 2 (omega arith) e)
-three_parities Nothing false b c h e = ap (number_by Nothing) (h refl)
+three_parities (Some edge) a b c h e = refl
+three_parities None true b c h e = absurd (larger 1 2 (omega arith) e)
+three_parities None false b c h e = ap (number_by None) (h refl)
 
-pub three_exchanged : (f : Found) (a b c : Bool) → (f ≡ Nothing → c ≡ (a ⊕ b)) → number_by Nothing a ≡ 2 →
+pub three_exchanged : (f : Option ℕ) (a b c : Bool) → (f ≡ None → c ≡ (a ⊕ b)) → number_by None a ≡ 2 →
     number_by f c ≡ exchanged (number_by f b)
-three_exchanged (At edge) a b c h e = refl
-three_exchanged Nothing false b c h e = absurd (larger 1 2 (omega arith) (sym e))
-three_exchanged Nothing true b c h e = ap (number_by Nothing) (h refl) ∙ swap b
+three_exchanged (Some edge) a b c h e = refl
+three_exchanged None false b c h e = absurd (larger 1 2 (omega arith) (sym e))
+three_exchanged None true b c h e = ap (number_by None) (h refl) ∙ swap b
   where
-    swap : (b : Bool) → number_by Nothing (true ⊕ b) ≡ exchanged (number_by Nothing b)
+    swap : (b : Bool) → number_by None (true ⊕ b) ≡ exchanged (number_by None b)
     swap true = refl
     swap false = refl

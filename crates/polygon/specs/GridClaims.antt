@@ -6,10 +6,11 @@ use Rattle.sphere.specs.declared.point.Point.{Point}
 use Rattle.sphere.specs.declared.point.Grid.{Grid}
 use Rattle.sphere.specs.declared.point.GridPoint.{GridPoint}
 use Rattle.sphere.specs.Point.{limit_of}
-use Rattle.answer.specs.declared.Answer.{Answer}
-use Rattle.answer.specs.declared.Answer.TheVariants.{Refused}
-use Rattle.answer.specs.declared.Check.{Check}
-use Rattle.answer.specs.declared.Check.TheVariants.{Passed}
+use Rattle.std.specs.declared.result.Result.TheVariants.{Ok, Err}
+use Rattle.answer.specs.declared.Reason.TheVariants.{OtherGrid, VertexList}
+use Rattle.answer.specs.Refusal.{refused_at}
+use Rattle.answer.specs.Refusal.{Answer}
+use Rattle.answer.specs.Refusal.{Check}
 use Rattle.answer.specs.Answer.{number_of}
 use Rattle.answer.specs.Chain.{◌then◌, fails_if}
 use Rattle.polygon.specs.Checks.{list_check}
@@ -21,8 +22,8 @@ use Rattle.polygon.specs.PairClaims.{Demand2PairAt, Demand3PairAt}
 
 -- The answer is 28 exactly when the checks before it pass and the grids are mixed; its place is then 0.
 pub record Mixed (answer : Answer) (before : Check) (mixed : Bool) : Type 0 where
-  pub refused→mixed : number_of answer ≡ 28 → (before ≡ Passed) × (mixed ≡ true)
-  pub mixed→refused : before ≡ Passed → mixed ≡ true → answer ≡ Refused 28 0
+  pub refused→mixed : number_of answer ≡ 28 → (before ≡ Ok tt) × (mixed ≡ true)
+  pub mixed→refused : before ≡ Ok tt → mixed ≡ true → answer ≡ Err (refused_at OtherGrid 0)
 
 abbrev pub MixedExactly : Type 0
 MixedExactly =
@@ -31,7 +32,7 @@ MixedExactly =
     × ((g : Grid) (vs : List ℤ) (X Y P : GridPoint) →
     Mixed (grid_pair_of g vs X Y P) (list_check vs) (is_mixed g (X.grid ∷ Y.grid ∷ P.grid ∷ [])))
     × ((g : Grid) (vs : List ℤ) (X : GridPoint) (h : Grid) (cs : List ℤ) →
-    Mixed (grid_choose_of g vs X h cs) (fails_if 10 (not (is_whole cs)) then list_check vs) (is_mixed g (X.grid ∷ h ∷ [])))
+    Mixed (grid_choose_of g vs X h cs) (fails_if VertexList (not (is_whole cs)) then list_check vs) (is_mixed g (X.grid ∷ h ∷ [])))
 
 -- A point's record on a grid.
 abbrev pub on : Grid → Point → GridPoint

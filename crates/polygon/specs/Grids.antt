@@ -7,8 +7,9 @@ use Rattle.sphere.specs.declared.point.Grid.{Grid}
 use Rattle.sphere.specs.declared.point.Grid.TheVariants.{Coarse, Fine}
 use Rattle.sphere.specs.declared.point.GridPoint.{GridPoint}
 use Rattle.sphere.specs.Point.{limit_of, is_null}
-use Rattle.answer.specs.declared.Answer.{Answer}
-use Rattle.answer.specs.declared.Check.{Check}
+use Rattle.answer.specs.declared.Reason.TheVariants.{OtherGrid, VertexList}
+use Rattle.answer.specs.Refusal.{Answer}
+use Rattle.answer.specs.Refusal.{Check}
 use Rattle.answer.specs.Answer.{answer_after}
 use Rattle.answer.specs.Chain.{◌then◌, fails_if}
 use Rattle.polygon.specs.Checks.{list_check}
@@ -28,7 +29,7 @@ is_mixed outline (g ∷ gs) = not (is_same outline g) || is_mixed outline gs
 
 -- Lines 10 and 28.
 unfoldable pub grid_check : List ℤ → Bool → Check
-grid_check vs mixed = list_check vs then fails_if 28 mixed
+grid_check vs mixed = list_check vs then fails_if OtherGrid mixed
 
 -- The grid of a second point where there may be none (all zero): none has no grid of its own.
 abbrev pub grid_of_second : Grid → GridPoint → Grid
@@ -49,5 +50,5 @@ grid_pair_of g vs X Y P =
 -- Choosing among candidates, which have one grid: 10 for them, 10 for the outline, 28.
 unfoldable pub grid_choose_of : Grid → List ℤ → GridPoint → Grid → List ℤ → Answer
 grid_choose_of g vs X h cs =
-    answer_after (fails_if 10 (not (is_whole cs)) then grid_check vs (is_mixed g (X.grid ∷ h ∷ [])))
+    answer_after (fails_if VertexList (not (is_whole cs)) then grid_check vs (is_mixed g (X.grid ∷ h ∷ [])))
     (choose_of (limit_of g) vs X.point cs)

@@ -26,7 +26,7 @@ fn is_level(plane: Plane, p: Point) -> bool
 }
 
 // The great circle of edge i holds the point.
-fn is_on_circle(grid: Grid, vertices: &[i32], i: usize, point: Point) -> bool
+pub(crate) fn is_on_circle(grid: Grid, vertices: &[i32], i: usize, point: Point) -> bool
     requires { (i < vertices_count vertices.now) × Gridded (limit_of grid) vertices.now
         × Within (limit_of grid) point }
     ensures { result ≡ is_on_circle vertices.now point i }

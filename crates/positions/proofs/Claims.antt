@@ -9,19 +9,20 @@ use lib.Dec.{T, eqb}
 use lib.ListN.{length, take, drop, get_or}
 use lib.Seq.{get_or-drop, drop-drop}
 use lib.Ieee.Fits.{and_i, and_r}
+use Rattle.std.specs.declared.result.Result.{Result}
+use Rattle.std.specs.Prelude.{⊤}
+use Rattle.std.specs.declared.result.Result.TheVariants.{Ok, Err}
 use Rattle.positions.specs.declared.grammar.State.{State}
-use Rattle.positions.specs.declared.grammar.Reading.{Reading}
-use Rattle.positions.specs.declared.grammar.Reading.TheVariants.{Whole, Dead}
 use Rattle.positions.specs.Text.{next_of, start, pick_reading, read}
 use Rattle.positions.specs.Claims.{LongestBeginning}
 use Rattle.positions.proofs.Viable.{alive, whole, only_alive, finish, after, completes, completes_in_bytes}
 
-abbrev ended : Bool → Bool → ℕ → Reading
-ended a b i = pick_reading a Whole (pick_reading b Whole (Dead i))
+abbrev ended : Bool → Bool → ℕ → Result ⊤ ℕ
+ended a b i = pick_reading a (Ok tt) (pick_reading b (Ok tt) (Err i))
 
-pub read_from : State → ℕ → List ℕ → Reading
+pub read_from : State → ℕ → List ℕ → Result ⊤ ℕ
 read_from s i [] = ended (eqb s.at 37) (eqb s.at 75) i
-read_from s i (b ∷ bs) = pick_reading (eqb (next_of s b).at 76) (Dead i) (read_from (next_of s b) (suc i) bs)
+read_from s i (b ∷ bs) = pick_reading (eqb (next_of s b).at 76) (Err i) (read_from (next_of s b) (suc i) bs)
 
 read_list : (l t : List ℕ) (s : State) (i : ℕ) → drop i l ≡ t → read l s i (length t) ≡ read_from s i t
 unfolding read read_from
@@ -38,34 +39,34 @@ read_list l (b ∷ bs) s i e =
 pub all_read : (l : List ℕ) → read l start 0 (length l) ≡ read_from start 0 l
 all_read l = read_list l l start 0 refl
 
-no_whole : (i : ℕ) → Dead i ≡ Whole → ⊥
+no_whole : (i : ℕ) → ◌≡◌ {A = Result ⊤ ℕ} (Err i) (Ok tt) → ⊥
 no_whole i e = let z : ◌≡◌ {A = ℕ} 0 1 = cc in omega arith
 
-end_whole : (a b : Bool) (i : ℕ) → T (a || b) → ended a b i ≡ Whole
+end_whole : (a b : Bool) (i : ℕ) → T (a || b) → ended a b i ≡ Ok tt
 end_whole true b i t = refl
 end_whole false true i t = refl
 end_whole false false i t = absurd t
 
-whole_end : (a b : Bool) (i : ℕ) → ended a b i ≡ Whole → T (a || b)
+whole_end : (a b : Bool) (i : ℕ) → ended a b i ≡ Ok tt → T (a || b)
 whole_end true b i e = tt
 whole_end false true i e = tt
 whole_end false false i e = absurd (no_whole i e)
 
-step_to : (x w : Bool) (i : ℕ) (r : Reading) → T (not x && w) → (T w → r ≡ Whole) → pick_reading x (Dead i) r ≡ Whole
+step_to : (x w : Bool) (i : ℕ) (r : Result ⊤ ℕ) → T (not x && w) → (T w → r ≡ Ok tt) → pick_reading x (Err i) r ≡ Ok tt
 step_to true w i r t f = absurd t
 step_to false w i r t f = f t
 
-step_of : (x w : Bool) (i : ℕ) (r : Reading) → pick_reading x (Dead i) r ≡ Whole → (r ≡ Whole → T w) → T (not x && w)
+step_of : (x w : Bool) (i : ℕ) (r : Result ⊤ ℕ) → pick_reading x (Err i) r ≡ Ok tt → (r ≡ Ok tt → T w) → T (not x && w)
 step_of true w i r e f = absurd (no_whole i e)
 step_of false w i r e f = f e
 
-pub to_whole : (t : List ℕ) (s : State) (i : ℕ) → T (whole s t) → read_from s i t ≡ Whole
+pub to_whole : (t : List ℕ) (s : State) (i : ℕ) → T (whole s t) → read_from s i t ≡ Ok tt
 unfolding read_from
 to_whole [] s i w = end_whole (eqb s.at 37) (eqb s.at 75) i w
 to_whole (b ∷ bs) s i w =
     step_to (eqb (next_of s b).at 76) (whole (next_of s b) bs) i _ w (to_whole bs (next_of s b) (suc i))
 
-pub of_whole : (t : List ℕ) (s : State) (i : ℕ) → read_from s i t ≡ Whole → T (whole s t)
+pub of_whole : (t : List ℕ) (s : State) (i : ℕ) → read_from s i t ≡ Ok tt → T (whole s t)
 unfolding read_from
 of_whole [] s i e = whole_end (eqb s.at 37) (eqb s.at 75) i e
 of_whole (b ∷ bs) s i e =
@@ -82,15 +83,15 @@ record DeadAt (s : State) (t : List ℕ) (i j : ℕ) : Type 0 where
 none : (n : ℕ) → n < 0 → ⊥
 none n h = omega arith
 
-at_end : (s : State) (i j : ℕ) (a b : Bool) → ended a b i ≡ Dead j → DeadAt s [] i j
+at_end : (s : State) (i j : ℕ) (a b : Bool) → ended a b i ≡ Err j → DeadAt s [] i j
 at_end s i j true b e = absurd (no_whole j (sym e))
 at_end s i j false true e = absurd (no_whole j (sym e))
 at_end s i j false false e =
     let m : i ≡ j = cc in
     record { k = 0; is = omega arith; inside = omega arith; before = tt; behind = λ h t. none 0 h }
 
-at_byte : (s : State) (b : ℕ) (bs : List ℕ) (i j : ℕ) (x : Bool) (r : Reading) → eqb (next_of s b).at 76 ≡ x →
-    pick_reading x (Dead i) r ≡ Dead j → (r ≡ Dead j → DeadAt (next_of s b) bs (suc i) j) → DeadAt s (b ∷ bs) i j
+at_byte : (s : State) (b : ℕ) (bs : List ℕ) (i j : ℕ) (x : Bool) (r : Result ⊤ ℕ) → eqb (next_of s b).at 76 ≡ x →
+    pick_reading x (Err i) r ≡ Err j → (r ≡ Err j → DeadAt (next_of s b) bs (suc i) j) → DeadAt s (b ∷ bs) i j
 at_byte s b bs i j true r o e f =
     let m : i ≡ j = cc in
     record {
@@ -117,7 +118,7 @@ at_byte s b bs i j false r o e f =
           (and_r (not (eqb (next_of s b).at 76)) (alive (next_of s b) (take (suc d.k) bs)) t);
     }
 
-dead_at : (t : List ℕ) (s : State) (i j : ℕ) → read_from s i t ≡ Dead j → DeadAt s t i j
+dead_at : (t : List ℕ) (s : State) (i j : ℕ) → read_from s i t ≡ Err j → DeadAt s t i j
 unfolding read_from
 dead_at [] s i j e = at_end s i j (eqb s.at 37) (eqb s.at 75) e
 dead_at (b ∷ bs) s i j e =

@@ -11,9 +11,10 @@ use lib.Dec.{eqb, ltb}
 use lib.IntN.{ℤ, pos, negsuc}
 use lib.ListN.{length, get_or}
 use Rattle.sphere.specs.Point.{is_far}
-use Rattle.answer.specs.declared.Found.{Found}
-use Rattle.answer.specs.declared.Found.TheVariants.{Nothing, At}
-use Rattle.answer.specs.declared.Check.TheVariants.{Passed}
+use Rattle.std.specs.declared.option.Option.{Option}
+use Rattle.std.specs.declared.option.Option.TheVariants.{None, Some}
+use Rattle.std.specs.declared.result.Result.TheVariants.{Ok}
+use Rattle.answer.specs.declared.Reason.TheVariants.{PositionOutside}
 use Rattle.answer.specs.Chain.{fails_at}
 use Rattle.answer.proofs.Laws.Chain.{then_passed}
 use Rattle.angles.specs.declared.point.Position.{Position}
@@ -188,16 +189,16 @@ inside_clamp p e =
     let b = near_clamp 900000000 (omega arith) p.lat h.1 in
     λ i. record { lon = a i; lat = b i }
 
-found : (i : ℕ) → At i ≡ Nothing → ⊥
+found : (i : ℕ) → Some i ≡ None → ⊥
 found i e = let z : ◌≡◌ {A = ℕ} 0 1 = cc in omega arith
 
-same_clamp : (ps : List Position) (i : ℕ) → first_outside i ps ≡ Nothing → clamp_all ps ≡ ps
+same_clamp : (ps : List Position) (i : ℕ) → first_outside i ps ≡ None → clamp_all ps ≡ ps
 unfolding first_outside clamp_all
 same_clamp [] i e = refl
 same_clamp (p ∷ ps) i e = go (is_outside p) refl e (same_clamp ps (suc i))
   where
-    go : (t : Bool) → is_outside p ≡ t → cond t (At i) (first_outside (suc i) ps) ≡ Nothing →
-        (first_outside (suc i) ps ≡ Nothing → clamp_all ps ≡ ps) → clamp_one p ∷ clamp_all ps ≡ p ∷ ps
+    go : (t : Bool) → is_outside p ≡ t → cond t (Some i) (first_outside (suc i) ps) ≡ None →
+        (first_outside (suc i) ps ≡ None → clamp_all ps ≡ ps) → clamp_one p ∷ clamp_all ps ≡ p ∷ ps
     go true o e r = absurd (found i e)
     go false o e r = λ j. inside_clamp p o j ∷ r e j
 
@@ -205,18 +206,18 @@ check_clamp : (ps : List Position) → ring_check (clamp_all ps) ≡ ring_check 
 unfolding ring_check
 check_clamp ps = go (first_outside 0 ps) refl
   where
-    go : (f : Found) → first_outside 0 ps ≡ f → ring_check (clamp_all ps) ≡ ring_check ps
-    go Nothing e = ap ring_check (same_clamp ps 0 e)
-    go (At i) e = rw (first_clamp ps 0, e)
+    go : (f : Option ℕ) → first_outside 0 ps ≡ f → ring_check (clamp_all ps) ≡ ring_check ps
+    go None e = ap ring_check (same_clamp ps 0 e)
+    go (Some i) e = rw (first_clamp ps 0, e)
 
-none_outside : (f : Found) → fails_at 31 f ≡ Passed → f ≡ Nothing
-none_outside Nothing e = refl
-none_outside (At i) e = absurd (let z : ◌≡◌ {A = ℕ} 0 1 = cc in omega arith)
+none_outside : (f : Option ℕ) → fails_at PositionOutside f ≡ Ok tt → f ≡ None
+none_outside None e = refl
+none_outside (Some i) e = absurd (let z : ◌≡◌ {A = ℕ} 0 1 = cc in omega arith)
 
-passed_same : (ps : List Position) → ring_check ps ≡ Passed → clamp_all ps ≡ ps
+passed_same : (ps : List Position) → ring_check ps ≡ Ok tt → clamp_all ps ≡ ps
 unfolding ring_check
 passed_same ps h =
-    same_clamp ps 0 (none_outside (first_outside 0 ps) (then_passed (fails_at 31 (first_outside 0 ps)) _ h).0)
+    same_clamp ps 0 (none_outside (first_outside 0 ps) (then_passed (fails_at PositionOutside (first_outside 0 ps)) _ h).0)
 
 length_clamp : (ps : List Position) → length (clamp_all ps) ≡ length ps
 unfolding clamp_all
@@ -236,5 +237,5 @@ module _ (text : List ℕ) where
   pub held_length : length (walked held text (length text)).done ≡ length (positions_of text)
   held_length = ap length held_all ∙ length_clamp (positions_of text)
 
-  pub held_same : ring_check (positions_of text) ≡ Passed → (walked held text (length text)).done ≡ positions_of text
+  pub held_same : ring_check (positions_of text) ≡ Ok tt → (walked held text (length text)).done ≡ positions_of text
   held_same h = held_all ∙ passed_same (positions_of text) h

@@ -9,7 +9,8 @@ use native.Mathlib.Omega.{arith}
 use borrow.Author.Tests.{ne_eqb}
 use lib.Dec.{eqb}
 use lib.ListN.{length, length-append, get_or}
-use Rattle.answer.specs.declared.Found.TheVariants.{At}
+use Rattle.std.specs.Option.{option_or}
+use Rattle.std.specs.Bool.{then_some}
 use Rattle.angles.specs.declared.point.Position.{Position}
 use Rattle.angles.specs.Point.{is_outside}
 use Rattle.positions.specs.declared.number.Pending.{Pending}
@@ -18,6 +19,8 @@ use Rattle.positions.specs.Number.{Small, Walk, fresh, digit_of, is_digit, pendi
 use Rattle.positions.specs.Number.{walked, held}
 use Rattle.positions.specs.Ring.{is_distant, first_outside, distant_after, first_distant, first_of}
 use Rattle.positions.specs.Ring.{last_after, last_of, is_ring, ring_check, earliest_of, added_of, check_of}
+use Rattle.std.specs.declared.option.Option.{Option}
+use Rattle.std.specs.declared.option.Option.TheVariants.{None, Some}
 
 abbrev pub ring_of : List Position → Ring
 ring_of ps = record {
@@ -38,8 +41,8 @@ outside_snoc (q ∷ qs) p i = go (is_outside q) (outside_snoc qs p (suc i))
   where
     go : (b : Bool) →
         first_outside (suc i) (qs ++ (p ∷ [])) ≡ earliest_of (first_outside (suc i) qs) (is_outside p) (suc i + length qs) →
-        cond b (At i) (first_outside (suc i) (qs ++ (p ∷ [])))
-        ≡ earliest_of (cond b (At i) (first_outside (suc i) qs)) (is_outside p) (i + suc (length qs))
+        cond b (Some i) (first_outside (suc i) (qs ++ (p ∷ [])))
+        ≡ earliest_of (cond b (Some i) (first_outside (suc i) qs)) (is_outside p) (i + suc (length qs))
     go true r = refl
     go false r =
         let e : suc i + length qs ≡ i + suc (length qs) = omega arith in
@@ -60,8 +63,8 @@ distant_snoc (r ∷ rs) p q i = go (is_distant q r) (distant_snoc rs p r (suc i)
     go : (b : Bool) →
         distant_after (suc i) r (rs ++ (p ∷ []))
         ≡ earliest_of (distant_after (suc i) r rs) (is_distant (last_after r rs) p) (suc i + length rs) →
-        cond b (At i) (distant_after (suc i) r (rs ++ (p ∷ [])))
-        ≡ earliest_of (cond b (At i) (distant_after (suc i) r rs)) (is_distant (last_after r rs) p) (i + suc (length rs))
+        cond b (Some i) (distant_after (suc i) r (rs ++ (p ∷ [])))
+        ≡ earliest_of (cond b (Some i) (distant_after (suc i) r rs)) (is_distant (last_after r rs) p) (i + suc (length rs))
     go true h = refl
     go false h =
         let e : suc i + length rs ≡ i + suc (length rs) = omega arith in
@@ -142,3 +145,11 @@ pub done_length : (hold : ℕ → ℕ) (text : List ℕ) (i : ℕ) → length (w
 unfolding walked
 done_length hold text zero = omega arith
 done_length hold text (suc i) = length_step hold (walked hold text i) (get_or text i 0) i (done_length hold text i)
+
+-- The place that was found before, or this one where the test holds.
+pub or_earliest : (before : Option ℕ) (test : Bool) (place : ℕ) →
+    option_or before (then_some test place) ≡ earliest_of before test place
+unfolding earliest_of
+or_earliest (Some i) test place = refl
+or_earliest None true place = refl
+or_earliest None false place = refl

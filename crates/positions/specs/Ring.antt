@@ -5,9 +5,10 @@
 use Rattle.std.specs.Prelude.{Bool, not, cond, ◌&&◌, ◌||◌, List, [], ◌∷◌, ℕ, suc, ◌+◌, ◌-◌, eqb, leb, pos, ◌-ℤ◌, length, take}
 use Rattle.integers.specs.Sign.{sign_of, is_zero}
 use Rattle.sphere.specs.Point.{is_far}
-use Rattle.answer.specs.declared.Found.{Found}
-use Rattle.answer.specs.declared.Found.TheVariants.{Nothing, At}
-use Rattle.answer.specs.declared.Check.{Check}
+use Rattle.std.specs.declared.option.Option.{Option}
+use Rattle.std.specs.declared.option.Option.TheVariants.{None, Some}
+use Rattle.answer.specs.declared.Reason.TheVariants.{OpenRing, PositionDistant, PositionOutside}
+use Rattle.answer.specs.Refusal.{Check}
 use Rattle.answer.specs.Chain.{◌then◌, fails_if, fails_at}
 use Rattle.angles.specs.declared.point.Position.{Position}
 use Rattle.angles.specs.Point.{is_outside}
@@ -23,17 +24,17 @@ is_same p q = is_zero (sign_of (p.lon -ℤ q.lon)) && is_zero (sign_of (p.lat -�
 
 -- ---- of a list, whose first position has the number i
 
-unfoldable pub first_outside : ℕ → List Position → Found
-first_outside i [] = Nothing
-first_outside i (p ∷ ps) = cond (is_outside p) (At i) (first_outside (suc i) ps)
+unfoldable pub first_outside : ℕ → List Position → Option ℕ
+first_outside i [] = None
+first_outside i (p ∷ ps) = cond (is_outside p) (Some i) (first_outside (suc i) ps)
 
 -- The earlier one of two neighbours that are too far apart: p has the number i, and the list follows it.
-unfoldable pub distant_after : ℕ → Position → List Position → Found
-distant_after i p [] = Nothing
-distant_after i p (q ∷ qs) = cond (is_distant p q) (At i) (distant_after (suc i) q qs)
+unfoldable pub distant_after : ℕ → Position → List Position → Option ℕ
+distant_after i p [] = None
+distant_after i p (q ∷ qs) = cond (is_distant p q) (Some i) (distant_after (suc i) q qs)
 
-unfoldable pub first_distant : List Position → Found
-first_distant [] = Nothing
+unfoldable pub first_distant : List Position → Option ℕ
+first_distant [] = None
 first_distant (p ∷ ps) = distant_after 0 p ps
 
 abbrev pub origin : Position
@@ -56,7 +57,7 @@ is_ring ps = leb 4 (length ps) && is_same (first_of ps) (last_of ps)
 
 unfoldable pub ring_check : List Position → Check
 ring_check ps =
-    fails_at 31 (first_outside 0 ps) then fails_if 32 (not (is_ring ps)) then fails_at 33 (first_distant ps)
+    fails_at PositionOutside (first_outside 0 ps) then fails_if OpenRing (not (is_ring ps)) then fails_at PositionDistant (first_distant ps)
 
 -- All but the last.
 unfoldable pub kept_of : List Position → List Position
@@ -64,12 +65,12 @@ kept_of ps = take (length ps - 1) ps
 
 -- ---- one position after the other
 
-unfoldable pub earliest_of : Found → Bool → ℕ → Found
-earliest_of (At i) test place = At i
-earliest_of Nothing test place = cond test (At place) Nothing
+unfoldable pub earliest_of : Option ℕ → Bool → ℕ → Option ℕ
+earliest_of (Some i) test place = Some i
+earliest_of None test place = cond test (Some place) None
 
 abbrev pub empty_ring : Ring
-empty_ring = record { count = 0; first = origin; last = origin; outside = Nothing; distant = Nothing }
+empty_ring = record { count = 0; first = origin; last = origin; outside = None; distant = None }
 
 unfoldable pub added_of : Ring → Position → Ring
 added_of r p =
@@ -80,7 +81,7 @@ added_of r p =
       last = p;
       outside = earliest_of r.outside (is_outside p) r.count;
       distant =
-          Nothing;
+          None;
     })
     (record {
       count = r.count + 1;
@@ -92,6 +93,6 @@ added_of r p =
 
 unfoldable pub check_of : Ring → Check
 check_of r =
-    fails_at 31 r.outside
-    then fails_if 32 (not (leb 4 r.count && is_same r.first r.last))
-    then fails_at 33 r.distant
+    fails_at PositionOutside r.outside
+    then fails_if OpenRing (not (leb 4 r.count && is_same r.first r.last))
+    then fails_at PositionDistant r.distant

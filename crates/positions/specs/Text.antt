@@ -3,10 +3,11 @@
 -- believe what stands here. Defined, in order: words, gaps (the two texts around the ring), class_of, class_table
 -- (classes of bytes), rows (the ring), dead, pick, ring_next, literal, next_of (one byte more), start, read (a whole
 -- text); is_point (the code's). Claims: what read calls dead is no text's beginning, and what comes before it is.
+use Rattle.std.specs.declared.result.Result.{Result}
+use Rattle.std.specs.Prelude.{⊤}
+use Rattle.std.specs.declared.result.Result.TheVariants.{Ok, Err}
 use Rattle.std.specs.Prelude.{Bool, true, false, cond, ◌&&◌, ◌||◌, List, [], ◌∷◌, ℕ, zero, suc, ◌+◌, ◌*◌, eqb, leb, ltb, get_or}
 use Rattle.positions.specs.declared.grammar.State.{State}
-use Rattle.positions.specs.declared.grammar.Reading.{Reading}
-use Rattle.positions.specs.declared.grammar.Reading.TheVariants.{Whole, Dead}
 
 -- {"type":"Polygon","coordinates":[[ ring ]} and {"coordinates":[[ ring ],"type":"Polygon"}, in ASCII. 256 stands for
 -- what is left of the ring after its `[`, its own `]` among it, and 257 for the end.
@@ -115,15 +116,15 @@ next_of s b = pick (eqb (get_or words s.at 0) 256) (ring_next s (class_of b)) (l
 abbrev pub start : State
 start = record { at = 0; ring = 0 }
 
-abbrev pub pick_reading : Bool → Reading → Reading → Reading
+abbrev pub pick_reading : Bool → Result ⊤ ℕ → Result ⊤ ℕ → Result ⊤ ℕ
 pick_reading true a b = a
 pick_reading false a b = b
 
 -- From the state s, at the place i of the text l, with k bytes left. 37 and 75 are the ends of the two texts.
-unfoldable pub read : List ℕ → State → ℕ → ℕ → Reading
-read l s i zero = pick_reading (eqb s.at 37) Whole (pick_reading (eqb s.at 75) Whole (Dead i))
+unfoldable pub read : List ℕ → State → ℕ → ℕ → Result ⊤ ℕ
+read l s i zero = pick_reading (eqb s.at 37) (Ok tt) (pick_reading (eqb s.at 75) (Ok tt) (Err i))
 read l s i (suc k) =
-    pick_reading (eqb (next_of s (get_or l i 0)).at 76) (Dead i) (read l (next_of s (get_or l i 0)) (suc i) k)
+    pick_reading (eqb (next_of s (get_or l i 0)).at 76) (Err i) (read l (next_of s (get_or l i 0)) (suc i) k)
 
 -- ---- the code's: after a number's point, of a longitude or of a latitude
 unfoldable pub is_point : State → Bool

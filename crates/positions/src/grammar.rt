@@ -1,5 +1,5 @@
-// Which texts a GeoJSON polygon can be, one byte after the other. Here, in order: State, Reading, class_table,
-// ring_table, class_of, wide, word_at, gap_at, row_at, ring_next, literal_next, is_ring, is_point, next. The texts and
+// Which texts a GeoJSON polygon can be, one byte after the other. Here, in order: State, class_table,
+// ring_table, class_of, word_at, gap_at, row_at, ring_next, literal_next, is_ring, is_point, next. The texts and
 // the ring's states are tables.
 ghost use Rattle.std.specs.Prelude.{◌≡◌, ℕ, ◌+◌, ◌*◌, ◌/◌, ◌≤◌, ◌<◌, eqb, get_or};
 ghost use Rattle.positions.specs.Text.{words, gaps, rows, class_table, class_of, next_of, ring_next};
@@ -11,12 +11,6 @@ use crate::tables::{CLASSES, GAPS, RING, WORDS};
 pub struct State {
     pub at: u64,
     pub ring: u64,
-}
-
-#[derive(Clone, Copy)]
-pub enum Reading {
-    Whole,
-    Dead(usize),
 }
 
 // The two large tables. A constant is laid out anew wherever it is named, so a caller has them laid out once and lends
@@ -38,12 +32,6 @@ fn class_of(classes: &[u64; 256], b: u8) -> u64
     ensures { (result ≡ class_of b) × (result < 9) }
 {
     classes[b as usize]
-}
-
-fn wide(b: u8) -> u64
-    ensures { result ≡ b }
-{
-    b as u64
 }
 
 fn word_at(at: u64) -> u64
@@ -136,5 +124,5 @@ pub fn next(classes: &[u64; 256], ring: &[u64; 261], s: State, byte: u8) -> Stat
     if is_ring(s.at) {
         return ring_next(ring, s, class_of(classes, byte));
     }
-    literal_next(s, wide(byte), class_of(classes, byte))
+    literal_next(s, u64::from(byte), class_of(classes, byte))
 }

@@ -1,4 +1,4 @@
-// Numbers and positions, one byte after the other. Here, in order: Pending, wide, capped, digit, is_digit, next, ends,
+// Numbers and positions, one byte after the other. Here, in order: Pending, capped, digit, is_digit, next, ends,
 // whole. A number is in ten-millionths of a degree; no more of its size is held than 200 degrees.
 ghost use Rattle.std.specs.Prelude.{◌≡◌, ◌≤◌, min};
 ghost use Rattle.positions.specs.Number.{digit_of, is_digit, pending_of, is_end, position_of, held, Small};
@@ -16,16 +16,10 @@ pub struct Pending {
     pub digits: bool,
 }
 
-fn wide(b: u8) -> u64
-    ensures { result ≡ b }
-{
-    b as u64
-}
-
 fn capped(n: u64) -> u64
     ensures { result ≡ min n 2000000000 }
 {
-    if n < 2000000000 { n } else { 2000000000 }
+    n.min(2000000000)
 }
 
 // One digit more: before the point ten times as much and whole degrees, after it a tenth of the unit before.
@@ -56,10 +50,7 @@ fn digit(p: Pending, d: u64) -> Pending
 pub fn is_digit(b: u8) -> bool
     ensures { result ≡ is_digit b }
 {
-    if b < 48 {
-        return false;
-    }
-    b <= 57
+    b.is_ascii_digit()
 }
 
 // After one byte more that ends no position.
@@ -68,7 +59,7 @@ pub fn next(p: Pending, b: u8) -> Pending
     ensures { result ≡ pending_of held p b }
 {
     if is_digit(b) {
-        return digit(p, wide(b) - 48);
+        return digit(p, u64::from(b) - 48);
     }
     if b == 45 {
         return Pending {
@@ -111,9 +102,8 @@ pub fn whole(p: Pending) -> Position
     requires { Small p }
     ensures { result ≡ position_of p }
 {
-    let lat = signed(p.negative, p.size);
     Position {
         lon: p.lon,
-        lat: lat,
+        lat: signed(p.negative, p.size),
     }
 }

@@ -6,8 +6,7 @@ ghost use Rattle.sphere.specs.Point.{is_far};
 ghost use Rattle.positions.specs.Ring.{is_distant, is_same, earliest_of, empty_ring, added_of, check_of};
 
 use angles::point::{Position, is_outside, is_past};
-use answer::{Check, Found};
-use sphere::point::wide;
+use answer::{Check, Reason};
 
 // What is kept of the positions so far: how many, the first and the last of them, the first that is out of range, and
 // the first that is too far from the next.
@@ -16,14 +15,14 @@ pub struct Ring {
     pub count: usize,
     pub first: Position,
     pub last: Position,
-    pub outside: Found,
-    pub distant: Found,
+    pub outside: Option<usize>,
+    pub distant: Option<usize>,
 }
 
 fn difference(a: i32, b: i32) -> i64
     ensures { result ≡ a -ℤ b }
 {
-    wide(a) - wide(b)
+    i64::from(a) - i64::from(b)
 }
 
 fn is_apart(a: i32, b: i32) -> bool
@@ -63,18 +62,11 @@ fn is_same(p: Position, q: Position) -> bool
 }
 
 // The place that was found before, or this one where the test holds.
-fn earliest(before: Found, test: bool, place: usize) -> Found
+#[tactic(auto, using(crate::proofs::RingLaws::or_earliest))]
+fn earliest(before: Option<usize>, test: bool, place: usize) -> Option<usize>
     ensures { result ≡ earliest_of before test place }
 {
-    match before {
-        Found::At(i) => Found::At(i),
-        Found::Nothing => {
-            if test {
-                return Found::At(place);
-            }
-            Found::Nothing
-        }
-    }
+    before.or(test.then_some(place))
 }
 
 pub fn none() -> Ring
@@ -85,8 +77,8 @@ pub fn none() -> Ring
         count: 0,
         first: p,
         last: p,
-        outside: Found::Nothing,
-        distant: Found::Nothing,
+        outside: None,
+        distant: None,
     }
 }
 
@@ -103,8 +95,8 @@ pub fn added(r: Ring, p: Position) -> Ring
             count: 1,
             first: p,
             last: p,
-            outside: outside,
-            distant: Found::Nothing,
+            outside,
+            distant: None,
         };
     }
     let first = r.first;
@@ -113,10 +105,10 @@ pub fn added(r: Ring, p: Position) -> Ring
     let distant = earliest(found, is_distant(last, p), count - 1);
     Ring {
         count: count + 1,
-        first: first,
+        first,
         last: p,
-        outside: outside,
-        distant: distant,
+        outside,
+        distant,
     }
 }
 
@@ -126,20 +118,18 @@ pub fn ring_check(r: Ring) -> Check
     ensures { result ≡ check_of r }
 {
     let outside = r.outside;
-    if let Found::At(place) = outside {
-        return Check::Failed(31, place);
+    if let Some(place) = outside {
+        return Err(Reason::PositionOutside.at(place));
     }
     if r.count < 4 {
-        return Check::Failed(32, 0);
+        return Err(Reason::OpenRing.at(0));
     }
-    let first = r.first;
-    let last = r.last;
-    if !is_same(first, last) {
-        return Check::Failed(32, 0);
+    if !is_same(r.first, r.last) {
+        return Err(Reason::OpenRing.at(0));
     }
     let distant = r.distant;
-    if let Found::At(place) = distant {
-        return Check::Failed(33, place);
+    if let Some(place) = distant {
+        return Err(Reason::PositionDistant.at(place));
     }
-    Check::Passed
+    Ok(())
 }

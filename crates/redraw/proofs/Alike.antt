@@ -15,7 +15,7 @@ use Rattle.sphere.specs.Orientation.{orientation_of}
 use Rattle.sphere.specs.Crossing.{crosses_of}
 use Rattle.sphere.specs.OnEdge.{is_on_edge}
 use Rattle.polygon.specs.Border.{joins_of, is_coincident, coincident_of, is_border}
-use Rattle.answer.specs.declared.Found.TheVariants.{Nothing}
+use Rattle.std.specs.declared.option.Option.TheVariants.{None}
 use Rattle.answer.specs.Search.{count_from}
 use Rattle.answer.proofs.Laws.Search.{first_none}
 use Rattle.answer.proofs.Laws.First.{none_first}
@@ -80,8 +80,8 @@ pub record Alike (vs ws : List ℤ) (X : Point) : Type 0 where
   pub off_to : OffCircles vs X → OffCircles ws X
   pub off_from : OffCircles ws X → OffCircles vs X
   pub crossings : (P : Point) → crossings_of ws X P ≡ crossings_of vs X P
-  pub clear_to : OffCircles vs X → (P : Point) → boundary_of vs P ≡ Nothing → boundary_of ws P ≡ Nothing
-  pub clear_from : OffCircles vs X → (P : Point) → boundary_of ws P ≡ Nothing → boundary_of vs P ≡ Nothing
+  pub clear_to : OffCircles vs X → (P : Point) → boundary_of vs P ≡ None → boundary_of ws P ≡ None
+  pub clear_from : OffCircles vs X → (P : Point) → boundary_of ws P ≡ None → boundary_of vs P ≡ None
 
 pub alike_undone : {vs ws : List ℤ} {X : Point} → Alike vs ws X → Alike ws vs X
 alike_undone a = record {
@@ -137,7 +137,7 @@ both_of false b h = refl
 
 pub clear_by : (vs ws : List ℤ) (P : Point) →
     ((i : ℕ) → i < vertices_count ws → is_held_by ws P i ≡ true → is_border ws i ≡ true → Bordered vs P) →
-    boundary_of vs P ≡ Nothing → boundary_of ws P ≡ Nothing
+    boundary_of vs P ≡ None → boundary_of ws P ≡ None
 unfolding boundary_of
 clear_by vs ws P to h = none_first (is_on_border ws P) 0 (vertices_count ws)
     (λ i from below. both_of (is_held_by ws P i) (is_border ws i) (λ a b. let s = to i (omega arith) a b in
@@ -145,7 +145,7 @@ clear_by vs ws P to h = none_first (is_on_border ws P) 0 (vertices_count ws)
 
 -- ---- lists with the same edges
 same_clear : (vs ws : List ℤ) (X P : Point) → SameEdges vs ws → OffCircles ws X →
-    boundary_of vs P ≡ Nothing → boundary_of ws P ≡ Nothing
+    boundary_of vs P ≡ None → boundary_of ws P ≡ None
 unfolding is_border coincident_of
 same_clear vs ws X P same off = clear_by vs ws P (λ i below held border.
     let A = start_of ws i in

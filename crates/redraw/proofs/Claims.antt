@@ -16,11 +16,11 @@ use Rattle.sphere.specs.Crossing.{crossing_of}
 use Rattle.sphere.proofs.Laws.Aligned.{Aligned, aligned_refl}
 use Rattle.sphere.proofs.Laws.Crossing.{crossing_aligned, crosses_aligned}
 use Rattle.sphere.proofs.Laws.OnEdge.{on_edge_aligned}
-use Rattle.answer.specs.declared.Found.{Found}
-use Rattle.answer.specs.declared.Found.TheVariants.{Nothing, At}
-use Rattle.answer.specs.declared.Answer.{Answer}
-use Rattle.answer.specs.declared.Answer.TheVariants.{Inside, Outside}
-use Rattle.answer.specs.declared.Check.TheVariants.{Passed}
+use Rattle.std.specs.declared.option.Option.{Option}
+use Rattle.std.specs.declared.option.Option.TheVariants.{None, Some}
+use Rattle.std.specs.declared.result.Result.TheVariants.{Ok}
+use Rattle.answer.specs.Refusal.{Answer}
+use Rattle.answer.specs.declared.Verdict.TheVariants.{Inside, Outside}
 use Rattle.answer.specs.Answer.{number_of, count_of, sum_of}
 use Rattle.answer.specs.Search.{count_from, sum_from}
 use Rattle.answer.proofs.Laws.Chain.{then_passed, both_true}
@@ -102,7 +102,7 @@ module _ (vs : List ℤ) (X X' P P' : Point) (x : Aligned X X') (p : Aligned P P
   winding_same = λ i. sum_from (λ j. unit_of (crossing_aligned X P (start_of vs j) (end_of vs j) X' P' (start_of vs j)
       (end_of vs j) x p (aligned_refl (start_of vs j)) (aligned_refl (end_of vs j)) i)) 0 (vertices_count vs)
 
-  pub clear_same : OffCircles vs X → boundary_of vs P ≡ Nothing → boundary_of vs P' ≡ Nothing
+  pub clear_same : OffCircles vs X → boundary_of vs P ≡ None → boundary_of vs P' ≡ None
   unfolding boundary_of
   clear_same off h = none_first (is_on_border vs P') 0 (vertices_count vs) (λ i from below.
       let l : i < vertices_count vs = omega arith in
@@ -116,28 +116,28 @@ pub record Moved (turned : Bool) (a b : Answer) : Type 0 where
   pub count : count_of b ≡ count_of a
   pub sum : sum_of b ≡ signed_by turned (sum_of a)
 
-moved : (turned : Bool) (f g : Found) (c d : ℕ) (s t : ℤ) → (f ≡ Nothing → g ≡ Nothing) →
-    (g ≡ Nothing → f ≡ Nothing) → d ≡ c → t ≡ signed_by turned s → Moved turned (verdict_by f c s) (verdict_by g d t)
-moved turned (At e) (At e') c d s t p q same sums = record { number = refl; count = refl; sum = zero turned }
+moved : (turned : Bool) (f g : Option ℕ) (c d : ℕ) (s t : ℤ) → (f ≡ None → g ≡ None) →
+    (g ≡ None → f ≡ None) → d ≡ c → t ≡ signed_by turned s → Moved turned (verdict_by f c s) (verdict_by g d t)
+moved turned (Some e) (Some e') c d s t p q same sums = record { number = refl; count = refl; sum = zero turned }
   where
     zero : (turned : Bool) → pos 0 ≡ signed_by turned (pos 0)
     zero true = refl
     zero false = refl
-moved turned (At e) Nothing c d s t p q same sums = found_none (q refl)
-moved turned Nothing (At e) c d s t p q same sums = found_none (p refl)
-moved turned Nothing Nothing c d s t p q same sums = rw (same, sums) (go (eqb (c % 2) 0))
+moved turned (Some e) None c d s t p q same sums = found_none (q refl)
+moved turned None (Some e) c d s t p q same sums = found_none (p refl)
+moved turned None None c d s t p q same sums = rw (same, sums) (go (eqb (c % 2) 0))
   where
-    go : (even : Bool) → Moved turned (cond even (Inside c s) (Outside c s))
-        (cond even (Inside c (signed_by turned s)) (Outside c (signed_by turned s)))
+    go : (even : Bool) → Moved turned (cond even (Ok (Inside c s)) (Ok (Outside c s)))
+        (cond even (Ok (Inside c (signed_by turned s))) (Ok (Outside c (signed_by turned s))))
     go true = record { number = refl; count = refl; sum = refl }
     go false = record { number = refl; count = refl; sum = refl }
 
-pub accepted : (limit : ℕ) (vs : List ℤ) (X P : Point) → judge_check limit vs X P ≡ Passed →
-    accept_check limit vs X ≡ Passed
+pub accepted : (limit : ℕ) (vs : List ℤ) (X P : Point) → judge_check limit vs X P ≡ Ok tt →
+    accept_check limit vs X ≡ Ok tt
 unfolding judge_check
 accepted limit vs X P h = (then_passed (accept_check limit vs X) _ h).0
 
-judged_off : (limit : ℕ) (vs : List ℤ) (X P : Point) → judge_check limit vs X P ≡ Passed → OffCircles vs X
+judged_off : (limit : ℕ) (vs : List ℤ) (X P : Point) → judge_check limit vs X P ≡ Ok tt → OffCircles vs X
 judged_off limit vs X P h = (reference_accepted limit vs X (accepted limit vs X P h)).off_circle
 
 redrawn_moved : (vs ws : List ℤ) (r : Redrawn vs ws) → OfBoth vs ws (Moved (is_turned r))
@@ -170,7 +170,7 @@ redrawn_moved vs ws r limit limit' X X' P P' b =
     off = judged_off limit vs X P b.first
 
 -- An accepted list is of whole vertices.
-pub whole_list : (limit : ℕ) (vs : List ℤ) (X : Point) → accept_check limit vs X ≡ Passed → length vs % 3 ≡ 0
+pub whole_list : (limit : ℕ) (vs : List ℤ) (X : Point) → accept_check limit vs X ≡ Ok tt → length vs % 3 ≡ 0
 whole_list limit vs X h = eqb-true (length vs % 3) 0
     (both_true (eqb (length vs % 3) 0) (leb 3 (length vs / 3) && leb (length vs / 3) 4096)
     (list_holds vs (polygon_first limit vs (accept_polygon limit vs X h)).0)).0

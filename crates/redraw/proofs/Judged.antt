@@ -12,8 +12,8 @@ use Rattle.sphere.specs.declared.point.Point.{Point}
 use Rattle.sphere.specs.Point.{is_null}
 use Rattle.sphere.proofs.Parity.{◌⊕◌, ⊕-equal}
 use Rattle.sphere.proofs.Laws.Grid.{within_more}
-use Rattle.answer.specs.declared.Found.TheVariants.{Nothing}
-use Rattle.answer.specs.declared.Check.TheVariants.{Passed}
+use Rattle.std.specs.declared.option.Option.TheVariants.{None}
+use Rattle.std.specs.declared.result.Result.TheVariants.{Ok}
 use Rattle.answer.specs.Answer.{number_of}
 use Rattle.answer.proofs.Laws.Search.{first_none}
 use Rattle.polygon.specs.Vertices.{vertices_count}
@@ -25,13 +25,13 @@ use Rattle.polygon.proofs.Laws.Pair.{optional_first, optional_second, judge_eith
 use Rattle.polygon.proofs.Potential.{arc, bit, arc_bits}
 use Rattle.polygon.proofs.Verdict.{number_by, number_judged, near, pair_passed, accepted_clears, called}
 
-even : (b : Bool) → number_by Nothing b ≡ 1 → b ≡ false
+even : (b : Bool) → number_by None b ≡ 1 → b ≡ false
 even true e = absurd (omega arith)
 even false e = refl
 
 -- ---- one list, and a grid that holds its own
 module _ (limit wide : ℕ) (more : limit ≤ wide) (vs : List ℤ) where
-  reference_more : (X : Point) → accept_check limit vs X ≡ Passed → Reference wide vs X
+  reference_more : (X : Point) → accept_check limit vs X ≡ Ok tt → Reference wide vs X
   reference_more X e = let r = reference_accepted limit vs X e in record {
     accepted = record {
       listed = r.accepted.listed;
@@ -41,7 +41,7 @@ module _ (limit wide : ℕ) (more : limit ≤ wide) (vs : List ℤ) where
     off_circle = r.off_circle;
   }
 
-  module _ (X X₂ P : Point) (x : optional_check limit vs X X₂ ≡ Passed) (p : query_check limit P ≡ Passed)
+  module _ (X X₂ P : Point) (x : optional_check limit vs X X₂ ≡ Ok tt) (p : query_check limit P ≡ Ok tt)
       (fair : number_of (optional_answer_of limit vs X X₂ P) ≡ 18 → ⊥) where
     abbrev U : Point
     U = judge_from X X₂ P
@@ -60,7 +60,7 @@ module _ (limit wide : ℕ) (more : limit ≤ wide) (vs : List ℤ) where
         (sym (arc_bits wide vs X X₂ (reference_more X first) r.accepted.known c.near
         (accepted_clears wide vs X₂ r)) ∙ even (arc vs X X₂) c.parity))
 
-    pub arc_judged : boundary_of vs P ≡ Nothing → arc vs U P ≡ (bit wide vs X ⊕ bit wide vs P)
+    pub arc_judged : boundary_of vs P ≡ None → arc vs U P ≡ (bit wide vs X ⊕ bit wide vs P)
     unfolding boundary_of
     arc_judged none =
         arc_bits wide vs U P (reference_more U (judge_accepted limit vs X X₂ x P)) (within_more more (query_passed p))

@@ -13,11 +13,10 @@ use Rattle.sphere.specs.Direction.{is_same_direction}
 use Rattle.sphere.proofs.Parity.{◌⊕◌}
 use Rattle.sphere.proofs.Generic.{generic}
 use Rattle.sphere.proofs.Laws.Aligned.{aligned_refl}
-use Rattle.answer.specs.declared.Found.{Found}
-use Rattle.answer.specs.declared.Found.TheVariants.{Nothing, At}
-use Rattle.answer.specs.declared.Answer.{Answer}
-use Rattle.answer.specs.declared.Check.{Check}
-use Rattle.answer.specs.declared.Check.TheVariants.{Passed, Failed}
+use Rattle.std.specs.declared.option.Option.{Option}
+use Rattle.std.specs.declared.option.Option.TheVariants.{None, Some}
+use Rattle.std.specs.declared.result.Result.TheVariants.{Ok, Err}
+use Rattle.answer.specs.Refusal.{Check, Answer, reason_number}
 use Rattle.answer.specs.Answer.{number_of, answer_after}
 use Rattle.answer.proofs.Laws.Chain.{then_passed}
 use Rattle.answer.proofs.Laws.Numbers.{Numbered}
@@ -51,12 +50,12 @@ arc_same vs ws X P Y Q e = odd_of (arc vs X P) (arc ws Y Q)
     (sym (count_odd (is_crossed vs X P) 0 (vertices_count vs)) ∙ ap (λ n. n % 2) e
     ∙ count_odd (is_crossed ws Y Q) 0 (vertices_count ws))
 
-numbers : (f g : Found) (a b : Bool) → (f ≡ Nothing → g ≡ Nothing) → (g ≡ Nothing → f ≡ Nothing) →
-    (f ≡ Nothing → g ≡ Nothing → a ≡ b) → number_by g b ≡ number_by f a
-numbers (At e) (At e') a b p q h = refl
-numbers (At e) Nothing a b p q h = found_none (q refl)
-numbers Nothing (At e) a b p q h = found_none (p refl)
-numbers Nothing Nothing a b p q h = ap (number_by Nothing) (sym (h refl refl))
+numbers : (f g : Option ℕ) (a b : Bool) → (f ≡ None → g ≡ None) → (g ≡ None → f ≡ None) →
+    (f ≡ None → g ≡ None → a ≡ b) → number_by g b ≡ number_by f a
+numbers (Some e) (Some e') a b p q h = refl
+numbers (Some e) None a b p q h = found_none (q refl)
+numbers None (Some e) a b p q h = found_none (p refl)
+numbers None None a b p q h = ap (number_by None) (sym (h refl refl))
 
 pub pair_unmoved : PairUnmoved
 unfolding bit
@@ -100,9 +99,9 @@ pair_unmoved vs ws r limit limit' X X₂ Y Y₂ P P' b =
 -- ---- by the answers alone
 -- A verdict comes after checks that passed, if they refuse with larger numbers.
 pub after_passed : {Is : ℕ → Type 0} → ((n : ℕ) → Is n → 3 < n) → (c : Check) (a : Answer) → Numbered Is c →
-    number_of (answer_after c a) ≤ 3 → c ≡ Passed
-after_passed larger Passed a h k = refl
-after_passed larger (Failed number place) a h k = absurd (omega (arith, larger number (h.each number place refl)))
+    number_of (answer_after c a) ≤ 3 → c ≡ Ok tt
+after_passed larger (Ok unit) a h k = refl
+after_passed larger (Err refusal) a h k = absurd (omega (arith, larger (reason_number refusal.reason) (h.each refusal refl)))
 
 abbrev Late : ℕ → Type 0
 Late n = 3 < n
@@ -111,7 +110,7 @@ module _ (limit : ℕ) (vs : List ℤ) (X Y P : Point) (h : number_of (optional_
   list_late : Numbered Late (list_check vs)
   list_late = list_numbered Late limit vs (omega arith)
 
-  pub first_passed : optional_check limit vs X Y ≡ Passed
+  pub first_passed : optional_check limit vs X Y ≡ Ok tt
   unfolding optional_answer_of
   first_passed = after_passed (λ n late. late) (optional_check limit vs X Y) _
       (optional_numbered Late limit vs list_late (λ n l m. omega arith) X (omega arith) Y) h
@@ -120,7 +119,7 @@ module _ (limit : ℕ) (vs : List ℤ) (X Y P : Point) (h : number_of (optional_
   unfolding optional_answer_of
   answered = subst (λ c. number_of (answer_after c (answer_of limit vs (judge_from X Y P) P)) ≤ 3) first_passed h
 
-  pub query_on_grid : query_check limit P ≡ Passed
+  pub query_on_grid : query_check limit P ≡ Ok tt
   unfolding answer_of judge_check
   query_on_grid =
       let U = judge_from X Y P in

@@ -7,8 +7,8 @@
 use Rattle.std.specs.Prelude.{◌≡◌, Bool, true, false, cond, List, ℕ, ◌≤◌, ℤ, neg_ℤ}
 use Rattle.sphere.specs.declared.point.Point.{Point}
 use Rattle.sphere.specs.Direction.{is_same_direction}
-use Rattle.answer.specs.declared.Answer.{Answer}
-use Rattle.answer.specs.declared.Check.TheVariants.{Passed}
+use Rattle.std.specs.declared.result.Result.TheVariants.{Ok}
+use Rattle.answer.specs.Refusal.{Answer}
 use Rattle.answer.specs.Answer.{number_of, count_of, sum_of}
 use Rattle.polygon.specs.Vertices.{vertices_count, reversed_of}
 use Rattle.polygon.specs.Checks.{judge_check}
@@ -20,8 +20,8 @@ use Rattle.redraw.specs.Redraw.{started_at, Lengthened, Addable, added_to, Redra
 pub record BothJudged (limit limit' : ℕ) (vs ws : List ℤ) (X X' P P' : Point) : Type 0 where
   pub reference : is_same_direction X X' ≡ true
   pub query : is_same_direction P P' ≡ true
-  pub first : judge_check limit vs X P ≡ Passed
-  pub second : judge_check limit' ws X' P' ≡ Passed
+  pub first : judge_check limit vs X P ≡ Ok tt
+  pub second : judge_check limit' ws X' P' ≡ Ok tt
 
 -- A fact of the two answers, for every such query.
 abbrev pub OfBoth : List ℤ → List ℤ → (Answer → Answer → Type 0) → Type 0

@@ -4,7 +4,7 @@
 use Rattle.std.specs.Prelude.{◌≡◌, true, List, ℕ, ◌≤◌, ℤ}
 use Rattle.sphere.specs.declared.point.Point.{Point}
 use Rattle.sphere.specs.Direction.{is_same_direction}
-use Rattle.answer.specs.declared.Check.TheVariants.{Passed}
+use Rattle.std.specs.declared.result.Result.TheVariants.{Ok}
 use Rattle.answer.specs.Answer.{number_of}
 use Rattle.polygon.specs.Checks.{query_check}
 use Rattle.polygon.specs.Pair.{optional_check, optional_answer_of}
@@ -14,10 +14,10 @@ use Rattle.redraw.specs.Redraw.{Redrawn}
 pub record BothAnswered (limit limit' : ℕ) (vs ws : List ℤ) (X X₂ Y Y₂ P P' : Point) : Type 0 where
   pub reference : is_same_direction X Y ≡ true
   pub query : is_same_direction P P' ≡ true
-  pub first : optional_check limit vs X X₂ ≡ Passed
-  pub second : optional_check limit' ws Y Y₂ ≡ Passed
-  pub first_query : query_check limit P ≡ Passed
-  pub second_query : query_check limit' P' ≡ Passed
+  pub first : optional_check limit vs X X₂ ≡ Ok tt
+  pub second : optional_check limit' ws Y Y₂ ≡ Ok tt
+  pub first_query : query_check limit P ≡ Ok tt
+  pub second_query : query_check limit' P' ≡ Ok tt
   pub first_near : number_of (optional_answer_of limit vs X X₂ P) ≡ 18 → ⊥
   pub second_near : number_of (optional_answer_of limit' ws Y Y₂ P') ≡ 18 → ⊥
 

@@ -6,7 +6,7 @@ use Prim.Native.Nat.{ℕ, ◌≤◌}
 use native.Mathlib.Omega.{arith}
 use Rattle.sphere.specs.declared.point.Point.{Point}
 use Rattle.sphere.specs.Point.{limit_of}
-use Rattle.answer.specs.declared.Check.TheVariants.{Passed}
+use Rattle.std.specs.declared.result.Result.TheVariants.{Ok}
 use Rattle.answer.specs.Answer.{number_of}
 use Rattle.polygon.specs.Pair.{optional_answer_of}
 use Rattle.polygon.proofs.Laws.Pair.{optional_judged}
@@ -22,7 +22,7 @@ use Rattle.redrawn_sheets.specs.Claims.{SheetsAgree, FeedsAgree, RedrawnSheets, 
 
 -- ---- a sheet that answers a verdict
 module _ (b : List ℕ) (P : Point) (h : number_of (sheet_answer_of b P) ≤ 3) where
-  sheet_passed : sheet_check b ≡ Passed
+  sheet_passed : sheet_check b ≡ Ok tt
   unfolding sheet_answer_of
   sheet_passed = after_passed (λ n l. omega (arith, l)) (sheet_check b) _ (above_sheet b) h
 

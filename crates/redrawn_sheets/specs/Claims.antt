@@ -7,7 +7,8 @@ use Rattle.std.specs.Prelude.{◌≡◌, true, List, ℕ, ◌*◌, ◌≤◌, �
 use Rattle.sphere.specs.declared.point.Point.{Point}
 use Rattle.sphere.specs.Direction.{is_same_direction}
 use Rattle.big_endian.specs.Bytes.{word_at}
-use Rattle.answer.specs.declared.Answer.TheVariants.{Done}
+use Rattle.std.specs.declared.result.Result.TheVariants.{Ok}
+use Rattle.answer.specs.declared.Verdict.TheVariants.{Done}
 use Rattle.answer.specs.Answer.{number_of}
 use Rattle.feed.specs.Feed.{query_count, query_at}
 use Rattle.sheet.specs.Sheet.{known_of, vertices_of}
@@ -35,7 +36,7 @@ pub record ResultsAgree (queries queries' results results' : List ℕ) : Type 0 
 -- Of any two feeds that succeed.
 abbrev pub FeedsAgree : List ℕ → List ℕ → Type 0
 FeedsAgree b c = (queries queries' buffer buffer' : List ℕ) →
-    sheet_feed_of b queries (length buffer) ≡ Done 0 → sheet_feed_of c queries' (length buffer') ≡ Done 0 →
+    sheet_feed_of b queries (length buffer) ≡ Ok (Done 0) → sheet_feed_of c queries' (length buffer') ≡ Ok (Done 0) →
     ResultsAgree queries queries' (sheet_results_after b queries buffer) (sheet_results_after c queries' buffer')
 
 -- ---- the claims

@@ -1,5 +1,5 @@
 -- The proofs of specs/Claims. Proved, in order: same_ring_unmoved, same_ring_pair_unmoved, same_ring_verdicts;
--- compared-passed, compared-way, compared-ring, compared-known; same_ring_sheets, same_ring_feeds; ring_field.
+-- read_number, read_way, way_passed, number_passed, way_ring, ring_way, known_same; same_ring_sheets, same_ring_feeds; ring_field.
 use mathlib.Core.Path.{◌≡◌, refl, sym, ◌∙◌}
 use mathlib.Core.Bool.{Bool, true, false, true≢false}
 use mathlib.Core.List.{List}
@@ -7,8 +7,8 @@ use Prim.Native.Nat.{ℕ}
 use native.Mathlib.Omega.{arith}
 use Rattle.sphere.specs.Point.{limit_of}
 use Rattle.sphere.specs.Direction.{is_same_direction}
-use Rattle.answer.specs.declared.Check.{Check}
-use Rattle.answer.specs.declared.Check.TheVariants.{Passed, Failed}
+use Rattle.std.specs.declared.result.Result.TheVariants.{Ok, Err}
+use Rattle.answer.specs.Refusal.{Check}
 use Rattle.answer.specs.Chain.{◌then◌}
 use Rattle.answer.proofs.Laws.Chain.{then_passed}
 use Rattle.answer.proofs.Laws.Numbers.{Numbered, ◌both◌}
@@ -18,8 +18,10 @@ use Rattle.sheet.specs.Sheet.{known_of, vertices_of, sheet_check}
 use Rattle.sheet.proofs.Laws.Numbers.{Above, above_sheet}
 use Rattle.sheet.proofs.Laws.Reads.{sheet_accepted}
 use Rattle.compare.specs.Ring.{SameRing, placed_of, way_of}
-use Rattle.compare.specs.Differences.{Field, known_field, vertices_field, zone_field, charset_field, name_field}
-use Rattle.compare.specs.Differences.{grid_field, second_field_lem, field_number}
+use Rattle.compare.specs.declared.differences.Field.{Field}
+use Rattle.compare.specs.declared.differences.Field.TheVariants.{ZoneNumber, CharacterSet, Name, KnownPoint, Vertices}
+use Rattle.compare.specs.declared.differences.Field.TheVariants.{WhichGrid, SecondPoint}
+use Rattle.compare.specs.Differences.{field_number}
 use Rattle.compare.specs.Comparison.{compared_after, comparison_of}
 use Rattle.compare.specs.Claims.{Same}
 use Rattle.compare.proofs.RingClaims.{same_ring_told}
@@ -51,48 +53,48 @@ same_ring_verdicts ls rs s limit limit' X X₂ Y Y₂ P P' b =
     limit limit' X X₂ Y Y₂ P P' b
 
 -- ---- what comparing two sheets tells
-after_way : (k : Check) (b c : List ℕ) → ((compared_after k b c).way ≡ 0 → ⊥) → k ≡ Passed
-after_way Passed b c h = refl
-after_way (Failed number place) b c h = absurd (h refl)
+after_way : (k : Check) (b c : List ℕ) → ((compared_after k b c).way ≡ 0 → ⊥) → k ≡ Ok tt
+after_way (Ok unit) b c h = refl
+after_way (Err refusal) b c h = absurd (h refl)
 
-after_number : (k : Check) (b c : List ℕ) → Numbered (Above 10) k → (compared_after k b c).number ≡ 0 → k ≡ Passed
-after_number Passed b c h e = refl
-after_number (Failed number place) b c h e = let late = h.each number place refl in absurd (omega arith)
+after_number : (k : Check) (b c : List ℕ) → Numbered (Above 10) k → (compared_after k b c).number ≡ 0 → k ≡ Ok tt
+after_number (Ok unit) b c h e = refl
+after_number (Err refusal) b c h e = let late = h.each refusal refl in absurd (omega arith)
 
 module _ (b c : List ℕ) where
   abbrev check : Check
   check = sheet_check b then sheet_check c
 
-  read_number : check ≡ Passed → (comparison_of b c).number ≡ 0
+  read_number : check ≡ Ok tt → (comparison_of b c).number ≡ 0
   unfolding comparison_of
   read_number e = rw e
 
-  read_way : check ≡ Passed → (comparison_of b c).way ≡ way_of (placed_of (vertices_of b) (vertices_of c))
+  read_way : check ≡ Ok tt → (comparison_of b c).way ≡ way_of (placed_of (vertices_of b) (vertices_of c))
   unfolding comparison_of
   read_way e = rw e
 
-  way_passed : ((comparison_of b c).way ≡ 0 → ⊥) → check ≡ Passed
+  way_passed : ((comparison_of b c).way ≡ 0 → ⊥) → check ≡ Ok tt
   unfolding comparison_of
   way_passed h = after_way check b c h
 
-  number_passed : (comparison_of b c).number ≡ 0 → check ≡ Passed
+  number_passed : (comparison_of b c).number ≡ 0 → check ≡ Ok tt
   unfolding comparison_of
   number_passed e = after_number check b c (above_sheet b both above_sheet c) e
 
-  way_ring : check ≡ Passed → ((comparison_of b c).way ≡ 0 → ⊥) → SameRing (vertices_of b) (vertices_of c)
+  way_ring : check ≡ Ok tt → ((comparison_of b c).way ≡ 0 → ⊥) → SameRing (vertices_of b) (vertices_of c)
   way_ring e h = (same_ring_told (vertices_of b) (vertices_of c)).way→same (λ w. h (read_way e ∙ w))
 
-  ring_way : check ≡ Passed → SameRing (vertices_of b) (vertices_of c) → (comparison_of b c).way ≡ 0 → ⊥
+  ring_way : check ≡ Ok tt → SameRing (vertices_of b) (vertices_of c) → (comparison_of b c).way ≡ 0 → ⊥
   ring_way e s w = (same_ring_told (vertices_of b) (vertices_of c)).same→way s (sym (read_way e) ∙ w)
 
   -- a field that is not told is the same
-  known_same : check ≡ Passed → (Told b c (field_number known_field) → ⊥) →
+  known_same : check ≡ Ok tt → (Told b c (field_number KnownPoint) → ⊥) →
       is_same_direction (known_of b) (known_of c) ≡ true
   known_same e h = go (is_same_direction (known_of b) (known_of c)) refl
     where
       go : (t : Bool) → is_same_direction (known_of b) (known_of c) ≡ t → t ≡ true
       go true d = refl
-      go false d = absurd (h ((fields_exact b c (read_number e)).every_one known_field (λ s. true≢false (sym s ∙ d))))
+      go false d = absurd (h ((fields_exact b c (read_number e)).every_one KnownPoint (λ s. true≢false (sym s ∙ d))))
 
 pub same_ring_sheets : SameRingSheets
 same_ring_sheets b c f =
@@ -110,13 +112,13 @@ same_ring_feeds b c f = agreeing b c (same_ring_sheets b c f)
 -- ---- field 5
 five_only : (b c : List ℕ) (f : Field) → 5 ≡ field_number f → (Same b c f → ⊥) →
     SameRing (vertices_of b) (vertices_of c) → ⊥
-five_only b c zone_field e h s = omega arith
-five_only b c charset_field e h s = omega arith
-five_only b c name_field e h s = omega arith
-five_only b c known_field e h s = omega arith
-five_only b c vertices_field e h s = h s
-five_only b c grid_field e h s = omega arith
-five_only b c second_field_lem e h s = omega arith
+five_only b c ZoneNumber e h s = omega arith
+five_only b c CharacterSet e h s = omega arith
+five_only b c Name e h s = omega arith
+five_only b c KnownPoint e h s = omega arith
+five_only b c Vertices e h s = h s
+five_only b c WhichGrid e h s = omega arith
+five_only b c SecondPoint e h s = omega arith
 
 pub ring_field : RingField
 ring_field b c read =
@@ -124,5 +126,5 @@ ring_field b c read =
     let exact = fields_exact b c read in (
       λ way told. let named = exact.no_other told.at told.below in
           five_only b c named.field (sym told.stands ∙ named.named) named.other (way_ring b c e way),
-      λ none way. none (exact.every_one vertices_field (λ s. ring_way b c e s way)),
+      λ none way. none (exact.every_one Vertices (λ s. ring_way b c e s way)),
     )

@@ -5,7 +5,8 @@
 -- SameRingFeeds; RingField (field 5 is told exactly if the way is 0, so that either may be asked).
 use Rattle.std.specs.Prelude.{◌≡◌, List, ℕ, ℤ}
 use Rattle.compare.specs.Ring.{SameRing}
-use Rattle.compare.specs.Differences.{known_field, vertices_field, field_number}
+use Rattle.compare.specs.declared.differences.Field.TheVariants.{KnownPoint, Vertices}
+use Rattle.compare.specs.Differences.{field_number}
 use Rattle.compare.specs.Comparison.{comparison_of}
 use Rattle.compare.specs.Claims.{Listed}
 use Rattle.redraw.specs.Claims.{Unmoved}
@@ -36,7 +37,7 @@ Told b c number = Listed (comparison_of b c).fields (comparison_of b c).count nu
 -- grids and second points, which may differ.
 pub record FoundSame (b c : List ℕ) : Type 0 where
   pub way : (comparison_of b c).way ≡ 0 → ⊥
-  pub known : Told b c (field_number known_field) → ⊥
+  pub known : Told b c (field_number KnownPoint) → ⊥
 
 abbrev pub SameRingSheets : Type 0
 SameRingSheets = (b c : List ℕ) → FoundSame b c → SheetsAgree b c
@@ -47,5 +48,5 @@ SameRingFeeds = (b c : List ℕ) → FoundSame b c → FeedsAgree b c
 -- Of two sheets that are read.
 abbrev pub RingField : Type 0
 RingField = (b c : List ℕ) → (comparison_of b c).number ≡ 0 →
-    (((comparison_of b c).way ≡ 0 → ⊥) → Told b c (field_number vertices_field) → ⊥)
-    × ((Told b c (field_number vertices_field) → ⊥) → (comparison_of b c).way ≡ 0 → ⊥)
+    (((comparison_of b c).way ≡ 0 → ⊥) → Told b c (field_number Vertices) → ⊥)
+    × ((Told b c (field_number Vertices) → ⊥) → (comparison_of b c).way ≡ 0 → ⊥)

@@ -7,10 +7,10 @@ use Rattle.sphere.specs.declared.point.Grid.{Grid}
 use Rattle.sphere.specs.Point.{limit_of, Within}
 use Rattle.sphere.specs.Orientation.{cross_of}
 use Rattle.sphere.specs.Plane.{plane_of, Sound}
-use Rattle.answer.specs.declared.Check.TheVariants.{Passed}
 use Rattle.polygon.specs.Checks.{accept_check}
 use Rattle.search.specs.declared.arc.Arc.{Arc}
 use Rattle.search.specs.Boxes.{Boxed}
+use Rattle.std.specs.declared.result.Result.TheVariants.{Ok}
 
 unfoldable pub arc_of : Grid → Point → Point → Bool → Arc
 arc_of g X P by-boxes = record { from = X; to = P; plane = plane_of g X P; by_boxes = by-boxes }
@@ -24,7 +24,7 @@ pub record SoundArc (arc : Arc) : Type 0 where
 
 -- The polygon accepts the reference point.
 pub record AcceptedArc (vs : List ℤ) (arc : Arc) : Type 0 where
-  pub accepted : accept_check (limit_of arc.plane.grid) vs arc.from ≡ Passed
+  pub accepted : accept_check (limit_of arc.plane.grid) vs arc.from ≡ Ok tt
   pub sound : SoundArc arc
 
 -- And the boxes are the polygon's.

@@ -6,12 +6,12 @@ use Rattle.std.specs.Prelude.{◌≡◌, ◌⊎◌, true, false, List, ℕ, ◌*
 use Rattle.sphere.specs.declared.point.Point.{Point}
 use Rattle.sphere.specs.Orientation.{dot_of}
 use Rattle.sphere.specs.Direction.{is_same_direction}
-use Rattle.answer.specs.declared.Check.TheVariants.{Passed}
 use Rattle.polygon.specs.Vertices.{vertices_count, start_of, end_of}
 use Rattle.polygon.specs.Checks.{accept_check}
 use Rattle.polygon.specs.Verdict.{is_held_by, is_crossed}
 use Rattle.search.specs.declared.boxes.Bounds.{Bounds}
 use Rattle.search.specs.Boxes.{run_end, box_of, is_apart, is_skipped}
+use Rattle.std.specs.declared.result.Result.TheVariants.{Ok}
 
 -- No coordinate of p is beyond q's.
 pub record Below (p q : Point) : Type 0 where
@@ -47,7 +47,7 @@ ApartExactly = (N : Point) (b : Bounds) → Below b.low b.high → Exactly N b
 
 abbrev pub SkippedMatterNot : Type 0
 SkippedMatterNot = (limit : ℕ) (vs : List ℤ) (X P : Point) (r j : ℕ) →
-    accept_check limit vs X ≡ Passed → is_skipped vs X P r ≡ true → InRun vs r j →
+    accept_check limit vs X ≡ Ok tt → is_skipped vs X P r ≡ true → InRun vs r j →
     (is_crossed vs X P j ≡ false) × (is_held_by vs P j ≡ false)
 
 abbrev pub NoneSkipped : Type 0

@@ -5,16 +5,16 @@ use Rattle.integers.specs.Sign.{positive, negative, sign_of}
 use Rattle.sphere.specs.declared.point.Point.{Point}
 use Rattle.sphere.specs.Orientation.{orientation_of, dot_of}
 use Rattle.sphere.specs.Crossing.{is_beside}
-use Rattle.answer.specs.declared.Found.{Found}
-use Rattle.answer.specs.declared.Found.TheVariants.{Nothing, At}
+use Rattle.std.specs.declared.option.Option.{Option}
+use Rattle.std.specs.declared.option.Option.TheVariants.{None, Some}
 use Rattle.answer.specs.Search.{first_from}
 use Rattle.polygon.specs.Vertices.{vertices_count, vertex_at, start_of, end_of}
 use Rattle.search.specs.declared.scan.Near.{Near}
 
 -- The first of k numbers from i on at which the test holds, or their end.
-abbrev pub stop_of : Found → ℕ → ℕ
-stop_of Nothing end = end
-stop_of (At i) end = i
+abbrev pub stop_of : Option ℕ → ℕ → ℕ
+stop_of None end = end
+stop_of (Some i) end = i
 
 unfoldable pub stop_from : (ℕ → Bool) → ℕ → ℕ → ℕ
 stop_from test i k = stop_of (first_from test i k) (i + k)
@@ -23,7 +23,7 @@ stop_from test i k = stop_of (first_from test i k) (i + k)
 pub record Scanning (test : ℕ → Bool) (i last at : ℕ) : Type 0 where
   pub after : i ≤ at
   pub before : at - i ≤ last - i
-  pub none : first_from test i (at - i) ≡ Nothing
+  pub none : first_from test i (at - i) ≡ None
 
 -- ---- sides of a plane
 

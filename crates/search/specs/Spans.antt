@@ -1,5 +1,5 @@
--- Runs that are skipped and runs that are not (document 02, P2): for the code alone. Defined, in order: run_start,
--- later_of; Cornered, is_run (one run); Spanned (edges that are walked together).
+-- Runs that are skipped and runs that are not (document 02, P2): for the code alone. Defined, in order: run_start;
+-- Cornered, is_run (one run); Spanned (edges that are walked together).
 use Rattle.std.specs.Prelude.{◌≡◌, Bool, true, List, ℕ, ◌+◌, ◌*◌, ◌-◌, ◌≤◌, ◌<◌, ℤ, length}
 use Rattle.std.specs.Bool.{beq}
 use Rattle.sphere.specs.declared.point.Point.{Point}
@@ -12,10 +12,6 @@ use Rattle.search.specs.Scan.{is_one_sided}
 -- Where run r begins, or the end of n edges: the lesser of r * 32 and n.
 abbrev pub run_start : ℕ → ℕ → ℕ
 run_start n r = n - (n - r * 32)
-
--- The later of two edges.
-abbrev pub later_of : ℕ → ℕ → ℕ
-later_of a b = a + (b - a)
 
 -- The boxes of the first `runs` runs are there, and within the grid.
 pub record Cornered (limit : ℕ) (boxes : List ℤ) (runs : ℕ) : Type 0 where

@@ -4,8 +4,8 @@
 use Rattle.std.specs.Prelude.{◌≡◌, Bool, false, true, not, ◌&&◌, cond, List, ℕ, suc, ◌-◌, ◌/◌, ◌<◌, ℤ}
 use Prim.{Unit}
 use Rattle.sphere.specs.declared.point.Point.{Point}
-use Rattle.answer.specs.declared.Found.{Found}
-use Rattle.answer.specs.declared.Found.TheVariants.{Nothing, At}
+use Rattle.std.specs.declared.option.Option.{Option}
+use Rattle.std.specs.declared.option.Option.TheVariants.{None, Some}
 use Rattle.answer.specs.Search.{first_from, count_from, sum_from}
 use Rattle.polygon.specs.Verdict.{is_held_by, is_on_border, is_crossed, way_of}
 use Rattle.search.specs.declared.walk.EdgeTest.{EdgeTest}
@@ -24,9 +24,9 @@ test_by held way = cond held OnBorder (Way way)
 
 -- Some edges: the first at which a test holds, that of border edges that hold the query, or else the crossings and
 -- their sum.
-abbrev pub tally_by : Found → ℕ → ℤ → Tally
-tally_by (At edge) crossed sum = Held edge
-tally_by Nothing crossed sum = Crossed crossed sum
+abbrev pub tally_by : Option ℕ → ℕ → ℤ → Tally
+tally_by (Some edge) crossed sum = Held edge
+tally_by None crossed sum = Crossed crossed sum
 
 abbrev pub tally_on : (ℕ → Bool) → List ℤ → Point → Point → ℕ → ℕ → Tally
 tally_on test vs X P i k =
@@ -37,7 +37,7 @@ tally_from vs X P i k = tally_on (is_on_border vs P) vs X P i k
 
 -- For the code alone: no edge before i is border and holds P, so a walk comes to edge i.
 abbrev pub NoneBefore : List ℤ → Point → ℕ → Type 0
-NoneBefore vs P i = first_from (is_on_border vs P) 0 i ≡ Nothing
+NoneBefore vs P i = first_from (is_on_border vs P) 0 i ≡ None
 
 -- For the code alone: where a walk ends, at an edge that holds P, border or not; or nowhere, and the crossings of all
 -- edges are counted.
@@ -51,9 +51,9 @@ unfoldable pub is_looked : List ℤ → Point → Point → ℕ → Bool
 is_looked vs X P i = not (is_skipped vs X P (i / 32))
 
 -- How many of k edges from i on the search comes to: it ends with the edge found.
-abbrev pub reach : Found → ℕ → ℕ → ℕ
-reach Nothing i k = k
-reach (At edge) i k = suc edge - i
+abbrev pub reach : Option ℕ → ℕ → ℕ → ℕ
+reach None i k = k
+reach (Some edge) i k = suc edge - i
 
 unfoldable pub looked_from : List ℤ → Point → Point → ℕ → ℕ → ℕ
 looked_from vs X P i k = count_from (is_looked vs X P) i (reach (first_from (is_on_border vs P) i k) i k)

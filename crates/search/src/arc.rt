@@ -21,9 +21,9 @@ pub fn arc_between(grid: Grid, from: Point, to: Point, by_boxes: bool) -> Arc
     ensures { result ≡ arc_of grid from to by_boxes }
 {
     Arc {
-        from: from,
-        to: to,
+        from,
+        to,
         plane: plane_through(grid, from, to),
-        by_boxes: by_boxes,
+        by_boxes,
     }
 }

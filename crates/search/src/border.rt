@@ -1,11 +1,10 @@
 // Which edge that holds the query is border: document 02's P3. Here, in order: stops_at, mark_class, is_border (one
-// edge); held_or, next_held, joins, next_other, is_new_border, first_border (those that hold it); tally_marked,
+// edge); next_held, joins, next_other, is_new_border, first_border (those that hold it); tally_marked,
 // tally_past, tally_held, tally_arc (what all edges say). Edges that join the same two directions, a class, hold the
 // same points and are border together: each class is counted once, from its first edge on.
 ghost use Rattle.std.specs.Prelude.{◌≡◌, true, false, ◌+◌, ◌-◌, ◌/◌, ◌<◌};
 ghost use Rattle.integers.specs.Sign.{sign_of};
 ghost use Rattle.sphere.specs.Orientation.{orientation_of};
-ghost use Rattle.answer.specs.declared.Found.TheVariants.{At};
 ghost use Rattle.answer.specs.Search.{first_from, count_from};
 ghost use Rattle.sphere.specs.Point.{fine, Within};
 ghost use Rattle.polygon.specs.Accepted.{Gridded};
@@ -16,13 +15,13 @@ ghost use Rattle.corridors.specs.Marked.{Marked};
 ghost use Rattle.search.specs.Arc.{AcceptedArc, Searchable};
 ghost use Rattle.search.specs.Spans.{run_start};
 ghost use Rattle.search.specs.Walk.{tally_from, stops_at};
-ghost use Rattle.search.specs.Border.{Foremost, ClassMarked, held_or, NextHeld};
+ghost use Rattle.search.specs.Border.{Foremost, ClassMarked, NextHeld};
 ghost use Rattle.search.specs.Border.{NextOther, Settled};
 
 use crate::arc::{Arc, arc_between};
 use crate::spans::next_span;
 use crate::walk::{Tally, walk_spans};
-use answer::Found;
+use answer::Verdict;
 use corridors::border::mark_edges;
 use polygon::vertices::{end_of, vertex_at};
 use sphere::direction::same_direction;
@@ -36,10 +35,7 @@ pub(crate) fn stops_at(vertices: &[i32], arc: Arc, stop: bool, i: usize, side: i
     requires side_value { sign_of side ≡ sign_of (orientation_of (start_of vertices.now i) (end_of vertices.now i) arc.to) }
     ensures { result ≡ stops_at vertices.now arc.to stop i }
 {
-    if on_edge_by(vertex_at(vertices, i), end_of(vertices, i), arc.to, side) {
-        return stop;
-    }
-    false
+    on_edge_by(vertex_at(vertices, i), end_of(vertices, i), arc.to, side) && stop
 }
 
 // How many edges from the run of edge i on join the same two directions. They are marked, as far as there are marks. A
@@ -58,15 +54,14 @@ fn mark_class(vertices: &[i32], boxes: &[i32], arc: Arc, i: usize, marks: &mut [
     let d = end_of(vertices, i);
     let mut r = i / 32;
     let mut count: u32 = 0;
-    let total = loop {
+    loop {
         let span = next_span(vertices, boxes, arc, r);
         if span.from >= span.to {
-            break count;
+            return count;
         }
         count += mark_edges(vertices, c, d, span.from, span.to, marks);
         r = span.next;
-    };
-    total
+    }
 }
 
 // Edge i is border, where it is the first of its class. All of the class are marked.
@@ -79,24 +74,15 @@ fn is_border(vertices: &[i32], boxes: &[i32], arc: Arc, i: usize, marks: &mut [u
     mark_class(vertices, boxes, arc, i, marks) % 2 == 1
 }
 
-fn held_or(tally: Tally, end: usize) -> usize
-    ensures { result ≡ held_or tally end }
-{
-    match tally {
-        Tally::Held(edge) => edge,
-        Tally::Crossed(_, _) => end,
-    }
-}
-
-// The first edge from `from` on that holds the query, or the end of all.
-fn next_held(vertices: &[i32], boxes: &[i32], arc: Arc, from: usize) -> usize
+// The first edge from `from` on that holds the query.
+fn next_held(vertices: &[i32], boxes: &[i32], arc: Arc, from: usize) -> Option<usize>
     requires { Searchable vertices.now boxes.now arc × (from < vertices_count vertices.now) }
     ensures { NextHeld vertices.now arc.to from result }
 {
-    held_or(
-        walk_spans(vertices, boxes, arc, from, true),
-        vertices.len() / 3,
-    )
+    match walk_spans(vertices, boxes, arc, from, true) {
+        Tally::Held(edge) => Some(edge),
+        Tally::Crossed(_, _) => None,
+    }
 }
 
 // Edge j joins the directions of c and d. As corridors::border::coincident, which the compiler takes into the walk over
@@ -113,7 +99,7 @@ fn joins(vertices: &[i32], c: Point, d: Point, j: usize) -> bool
 }
 
 // The next one after edge `first` that is not of its class.
-fn next_other(vertices: &[i32], boxes: &[i32], arc: Arc, first: usize) -> usize
+fn next_other(vertices: &[i32], boxes: &[i32], arc: Arc, first: usize) -> Option<usize>
     requires { Searchable vertices.now boxes.now arc × (first < vertices_count vertices.now) }
     ensures { NextOther vertices.now arc.to first result }
 {
@@ -122,17 +108,13 @@ fn next_other(vertices: &[i32], boxes: &[i32], arc: Arc, first: usize) -> usize
     let d = end_of(vertices, first);
     let mut i = first + 1;
     while i < n {
-        let edge = next_held(vertices, boxes, arc, i);
-        if edge >= n {
-            return n;
-        }
-        let same = joins(vertices, c, d, edge);
-        if !same {
-            return edge;
+        let edge = next_held(vertices, boxes, arc, i)?;
+        if !joins(vertices, c, d, edge) {
+            return Some(edge);
         }
         i = edge + 1;
     }
-    n
+    None
 }
 
 // Edge i, which holds the query, is border. One that is marked is not: its class was counted.
@@ -142,14 +124,11 @@ fn is_new_border(vertices: &[i32], boxes: &[i32], arc: Arc, i: usize, marks: &mu
     ensures { (result ≡ is_border vertices.now i)
         × (result ≡ false → Settled vertices.now arc.to (i + 1) marks.new) }
 {
-    if marks[i] == 1 {
-        return false;
-    }
-    is_border(vertices, boxes, arc, i, marks)
+    marks[i] != 1 && is_border(vertices, boxes, arc, i, marks)
 }
 
 // The first border edge that holds the query, by marks: one for each edge whose class was counted, and is no border.
-fn first_border(vertices: &[i32], boxes: &[i32], arc: Arc) -> Found
+fn first_border(vertices: &[i32], boxes: &[i32], arc: Arc) -> Option<usize>
     requires { Searchable vertices.now boxes.now arc }
     ensures { result ≡ boundary_of vertices.now arc.to }
 {
@@ -157,16 +136,13 @@ fn first_border(vertices: &[i32], boxes: &[i32], arc: Arc) -> Found
     let mut marks = [0u8; 4096];
     let mut i = 0;
     while i < n {
-        let edge = next_held(vertices, boxes, arc, i);
-        if edge >= n {
-            return Found::Nothing;
-        }
+        let edge = next_held(vertices, boxes, arc, i)?;
         if is_new_border(vertices, boxes, arc, edge, &mut marks) {
-            return Found::At(edge);
+            return Some(edge);
         }
         i = edge + 1;
     }
-    Found::Nothing
+    None
 }
 
 // What all edges say, whichever of those that hold the query are border. Many may hold it, so the boxes are not asked
@@ -180,8 +156,8 @@ fn tally_marked(vertices: &[i32], boxes: &[i32], arc: Arc) -> Tally
     let grid = plane.grid;
     let whole = arc_between(grid, arc.from, arc.to, false);
     match first_border(vertices, boxes, whole) {
-        Found::Nothing => walk_spans(vertices, boxes, arc, 0, false),
-        Found::At(edge) => Tally::Held(edge),
+        None => walk_spans(vertices, boxes, arc, 0, false),
+        Some(edge) => Tally::Held(edge),
     }
 }
 
@@ -189,14 +165,13 @@ fn tally_marked(vertices: &[i32], boxes: &[i32], arc: Arc) -> Tally
 // of two of which the other is border, and no mark is needed.
 fn tally_past(vertices: &[i32], boxes: &[i32], arc: Arc, first: usize) -> Tally
     requires searchable { Searchable vertices.now boxes.now arc × (is_border vertices.now first ≡ false) }
-    requires vertices_value { first_from (stops_at vertices.now arc.to true) 0 (vertices_count vertices.now) ≡ At first }
+    requires vertices_value { first_from (stops_at vertices.now arc.to true) 0 (vertices_count vertices.now) ≡ Some first }
     ensures { result ≡ tally_from vertices.now arc.from arc.to 0
         (vertices_count vertices.now) }
 {
-    let other = next_other(vertices, boxes, arc, first);
-    if other >= vertices.len() / 3 {
+    let Some(other) = next_other(vertices, boxes, arc, first) else {
         return walk_spans(vertices, boxes, arc, 0, false);
-    }
+    };
     let mut unmarked = [0u8; 1];
     if is_border(vertices, boxes, arc, other, &mut unmarked) {
         return Tally::Held(other);
@@ -207,7 +182,7 @@ fn tally_past(vertices: &[i32], boxes: &[i32], arc: Arc, first: usize) -> Tally
 // The same, where `first` is the first edge that holds the query. Most often it is border.
 pub(crate) fn tally_held(vertices: &[i32], boxes: &[i32], arc: Arc, first: usize) -> Tally
     requires searchable { Searchable vertices.now boxes.now arc }
-    requires vertices_value { first_from (stops_at vertices.now arc.to true) 0 (vertices_count vertices.now) ≡ At first }
+    requires vertices_value { first_from (stops_at vertices.now arc.to true) 0 (vertices_count vertices.now) ≡ Some first }
     ensures { result ≡ tally_from vertices.now arc.from arc.to 0
         (vertices_count vertices.now) }
 {
@@ -226,6 +201,6 @@ pub fn tally_arc(vertices: &[i32], boxes: &[i32], arc: Arc) -> Tally
 {
     match walk_spans(vertices, boxes, arc, 0, true) {
         Tally::Held(edge) => tally_held(vertices, boxes, arc, edge),
-        Tally::Crossed(crossed, sum) => Tally::Crossed(crossed, sum),
+        crossed => crossed,
     }
 }

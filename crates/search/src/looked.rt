@@ -53,19 +53,11 @@ pub(crate) fn looked_before(boxes: &[i32], plane: Plane, reach: usize) -> u32
 pub(crate) fn is_counted(mode: Mode) -> bool
     ensures { result ≡ is_counted mode }
 {
-    match mode {
-        Mode::Plain => false,
-        Mode::Boxed => false,
-        Mode::Counted => true,
-    }
+    matches!(mode, Mode::Counted)
 }
 
 pub fn asks_boxes(mode: Mode) -> bool
     ensures { result ≡ asks_boxes mode }
 {
-    match mode {
-        Mode::Plain => false,
-        Mode::Boxed => true,
-        Mode::Counted => true,
-    }
+    matches!(mode, Mode::Boxed | Mode::Counted)
 }

@@ -91,36 +91,33 @@ fn next_near(vertices: &[i32], plane: Plane, closing: i64, i: usize, side: i64, 
         × Sided vertices.now plane.normal result.edge result.start
         × Sided vertices.now plane.normal (next_of (last + 1) result.edge) result.end }
 {
-    let mut edge = skip(vertices, plane, i, side, last);
+    let first = skip(vertices, plane, i, side, last);
     let mut s1 = side;
-    while edge < last {
+    for edge in first..last {
         let s2 = side_of(plane, vertex_at(vertices, edge + 1));
         if !is_beside(s1, s2) {
             return Near {
-                edge: edge,
+                edge,
                 start: s1,
                 end: s2,
             };
         }
         s1 = s2;
-        edge += 1;
     }
     Near {
-        edge: edge,
+        edge: first.max(last),
         start: s1,
         end: closing,
     }
 }
 
 // The end of those of the edges before `to` that do not go back to vertex 0.
+#[tactic(auto, unfolding(crate::specs::Scan::last_inner))]
 fn last_inner(n: usize, to: usize) -> usize
     requires { 0 < n }
     ensures { result ≡ last_inner n to }
 {
-    if to < n {
-        return to;
-    }
-    n - 1
+    to.min(n - 1)
 }
 
 // The side of vertex i, where that of vertex 0 is known.

@@ -1,11 +1,10 @@
-// Runs that are skipped and runs that are not (document 02, P2). Here, in order: next_run, later, run_start, Span,
-// next_span.
+// Runs that are skipped and runs that are not (document 02, P2). Here, in order: next_run, run_start, Span, next_span.
 ghost use Rattle.std.specs.Prelude.{◌≡◌, ◌-◌, ◌≤◌};
 ghost use Rattle.sphere.specs.Point.{limit_of};
 ghost use Rattle.sphere.specs.Plane.{Sound};
 ghost use Rattle.search.specs.Arc.{Searchable};
 ghost use Rattle.search.specs.Scan.{stop_from};
-ghost use Rattle.search.specs.Spans.{run_start, later_of, Cornered, is_run, Spanned};
+ghost use Rattle.search.specs.Spans.{run_start, Cornered, is_run, Spanned};
 
 use crate::arc::Arc;
 use crate::boxes;
@@ -16,24 +15,12 @@ fn next_run(boxes: &[i32], plane: Plane, r: usize, runs: usize, skipped: bool) -
     requires { Sound plane × Cornered (limit_of plane.grid) boxes.now runs }
     ensures { result ≡ stop_from (is_run boxes.now plane.normal skipped) r (runs - r) }
 {
-    let mut i = r;
-    while i < runs {
+    for i in r..runs {
         if boxes::is_apart(plane, boxes, i) == skipped {
             return i;
         }
-        i += 1;
     }
-    i
-}
-
-// The later of two edges.
-pub(crate) fn later(a: usize, b: usize) -> usize
-    ensures { result ≡ later_of a b }
-{
-    if a < b {
-        return b;
-    }
-    a
+    r.max(runs)
 }
 
 // The first edge of run r, or the end of n edges.
@@ -41,11 +28,7 @@ fn run_start(n: usize, r: usize) -> usize
     requires { r ≤ 130 }
     ensures { result ≡ run_start n r }
 {
-    let start = r * 32;
-    if start < n {
-        return start;
-    }
-    n
+    n.min(r * 32)
 }
 
 // Edges that are walked together, and the run to go on from.

@@ -4,7 +4,6 @@
 ghost use Rattle.std.specs.Prelude.{◌≡◌, cond, ◌-◌, ◌≤◌, ◌<◌};
 ghost use Rattle.integers.specs.Sign.{sign_of, is_zero};
 ghost use Rattle.sphere.specs.Point.{limit_of, Within};
-ghost use Rattle.answer.specs.declared.Check.TheVariants.{Passed};
 ghost use Rattle.polygon.specs.Checks.{accept_check};
 ghost use Rattle.polygon.specs.Vertices.{vertices_count};
 ghost use Rattle.polygon.specs.Verdict.{way_of};
@@ -18,8 +17,8 @@ use crate::arc::{Arc, arc_between};
 use crate::border::{stops_at, tally_arc, tally_held};
 use crate::looked::{asks_boxes, is_counted, looked_before, reach_of};
 use crate::scan::{Near, near_from, side_at};
-use crate::spans::{later, next_span};
-use answer::Found;
+use crate::spans::next_span;
+use answer::Verdict;
 use polygon::vertices::{end_of, vertex_at};
 use sphere::crossing::{crossing_from, is_beside};
 use sphere::plane::{plane_through, side_of};
@@ -57,10 +56,7 @@ fn test_edge(vertices: &[i32], arc: Arc, stop: bool, near: Near) -> EdgeTest
 pub fn counted(way: i32) -> u32
     ensures { result ≡ cond (is_zero (sign_of way)) 0 1 }
 {
-    if way == 0 {
-        return 0;
-    }
-    1
+    u32::from(way != 0)
 }
 
 // What some edges say: the first that is border and holds the query, or by a walk any that holds it; or else the
@@ -71,12 +67,12 @@ pub enum Tally {
     Crossed(u32, i32),
 }
 
-pub fn tally_by(found: Found, crossed: u32, sum: i32) -> Tally
+pub fn tally_by(found: Option<usize>, crossed: u32, sum: i32) -> Tally
     ensures { result ≡ tally_by found crossed sum }
 {
     match found {
-        Found::Nothing => Tally::Crossed(crossed, sum),
-        Found::At(edge) => Tally::Held(edge),
+        None => Tally::Crossed(crossed, sum),
+        Some(edge) => Tally::Held(edge),
     }
 }
 
@@ -95,10 +91,10 @@ fn walk_edges(vertices: &[i32], arc: Arc, closing: i64, from: usize, to: usize, 
     let found = loop {
         let near = near_from(vertices, arc, closing, i, side, to);
         if near.edge >= to {
-            break Found::Nothing;
+            break None;
         }
         let way = match test_edge(vertices, arc, stop, near) {
-            EdgeTest::OnBorder => break Found::At(near.edge),
+            EdgeTest::OnBorder => break Some(near.edge),
             EdgeTest::Way(way) => way,
         };
         crossed += counted(way);
@@ -128,17 +124,11 @@ pub(crate) fn walk_spans(
     let found = loop {
         let span = next_span(vertices, boxes, arc, r);
         if span.from >= span.to {
-            break Found::Nothing;
+            break None;
         }
-        match walk_edges(
-            vertices,
-            arc,
-            closing,
-            later(from, span.from),
-            span.to,
-            stop,
-        ) {
-            Tally::Held(edge) => break Found::At(edge),
+        let begin = from.max(span.from);
+        match walk_edges(vertices, arc, closing, begin, span.to, stop) {
+            Tally::Held(edge) => break Some(edge),
             Tally::Crossed(more, ways) => {
                 crossed += more;
                 sum += ways;
@@ -159,14 +149,14 @@ fn tally_edges(
     query: Point,
     by_boxes: bool,
 ) -> Tally
-    requires { (accept_check (limit_of grid) vertices.now known ≡ Passed) × Within (limit_of grid) query
+    requires { (accept_check (limit_of grid) vertices.now known ≡ Ok tt) × Within (limit_of grid) query
         × Boxed vertices.now boxes.now }
     ensures { result ≡ tally_from vertices.now known query 0 (vertices_count vertices.now) }
 {
     let arc = arc_between(grid, known, query, by_boxes);
     match walk_spans(vertices, boxes, arc, 0, true) {
         Tally::Held(edge) => tally_held(vertices, boxes, arc, edge),
-        Tally::Crossed(crossed, sum) => Tally::Crossed(crossed, sum),
+        crossed => crossed,
     }
 }
 
@@ -180,14 +170,11 @@ pub struct Searched {
 fn uncounted(tally: Tally) -> Searched
     ensures { (result.tally ≡ tally) × (result.looked ≡ 0) }
 {
-    Searched {
-        tally: tally,
-        looked: 0,
-    }
+    Searched { tally, looked: 0 }
 }
 
 fn count_edges(grid: Grid, vertices: &[i32], boxes: &[i32], known: Point, query: Point) -> Searched
-    requires { (accept_check (limit_of grid) vertices.now known ≡ Passed) × Within (limit_of grid) query
+    requires { (accept_check (limit_of grid) vertices.now known ≡ Ok tt) × Within (limit_of grid) query
         × Boxed vertices.now boxes.now }
     ensures { (result.tally ≡ tally_from vertices.now known query 0 (vertices_count vertices.now))
         × (result.looked ≡ looked_from vertices.now known query 0 (vertices_count vertices.now)) }
@@ -195,10 +182,7 @@ fn count_edges(grid: Grid, vertices: &[i32], boxes: &[i32], known: Point, query:
     let arc = arc_between(grid, known, query, true);
     let tally = tally_arc(vertices, boxes, arc);
     let looked = looked_before(boxes, arc.plane, reach_of(tally, vertices.len() / 3));
-    Searched {
-        tally: tally,
-        looked: looked,
-    }
+    Searched { tally, looked }
 }
 
 // How all edges are searched: every one; those that the boxes leave; or these, and their number is worked out.
@@ -218,7 +202,7 @@ pub fn search_edges(
     query: Point,
     mode: Mode,
 ) -> Searched
-    requires { (accept_check (limit_of grid) vertices.now known ≡ Passed) × Within (limit_of grid) query
+    requires { (accept_check (limit_of grid) vertices.now known ≡ Ok tt) × Within (limit_of grid) query
         × Boxed vertices.now boxes.now }
     ensures { (result.tally ≡ tally_from vertices.now known query 0 (vertices_count vertices.now))
         × (result.looked ≡ looked_in mode (looked_from vertices.now known query 0

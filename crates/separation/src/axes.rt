@@ -15,15 +15,12 @@ use sphere::point::Point;
 
 pub const UNIT: i64 = 1_073_741_824;
 
-pub const LEAST: i64 = -1_073_741_824;
+pub const LEAST: i64 = -UNIT;
 
 fn is_far(l: i64) -> bool
     ensures { result ≡ is_far unit l }
 {
-    if l < LEAST {
-        return true;
-    }
-    UNIT < l
+    l < LEAST || UNIT < l
 }
 
 // The normal 2^30 e - l d.
@@ -31,20 +28,10 @@ fn plane(e: Point, d: Point, l: i64) -> Point
     requires { (Within 1 e × Within 1 d) × Fits unit l }
     ensures { (result ≡ plane_of e d l) × Within steep result }
 {
-    let Point {
-        x: ex,
-        y: ey,
-        z: ez,
-    } = e;
-    let Point {
-        x: dx,
-        y: dy,
-        z: dz,
-    } = d;
     Point {
-        x: UNIT * ex - l * dx,
-        y: UNIT * ey - l * dy,
-        z: UNIT * ez - l * dz,
+        x: UNIT * e.x - l * d.x,
+        y: UNIT * e.y - l * d.y,
+        z: UNIT * e.z - l * d.z,
     }
 }
 
@@ -60,7 +47,7 @@ pub fn opposite(l: i64) -> i64
     requires { Fits unit l }
     ensures { (result ≡ neg_ℤ l) × Fits unit result }
 {
-    0 - l
+    -l
 }
 
 // The four planes along e, by d and f one way and the other.
@@ -68,32 +55,20 @@ fn clears_all(vertices: &[i32], e: Point, d: Point, f: Point, l: i64) -> bool
     requires { Gridded fine vertices.now × (Frame e d f × Fits unit l) }
     ensures { result ≡ true → AllClear vertices.now e d f l }
 {
-    if !clears(vertices, e, d, l) {
-        return false;
-    }
-    if !clears(vertices, e, d, opposite(l)) {
-        return false;
-    }
-    if !clears(vertices, e, f, l) {
-        return false;
-    }
-    clears(vertices, e, f, opposite(l))
+    clears(vertices, e, d, l)
+        && clears(vertices, e, d, opposite(l))
+        && clears(vertices, e, f, l)
+        && clears(vertices, e, f, opposite(l))
 }
 
 fn clears_any(vertices: &[i32], e: Point, d: Point, f: Point, l: i64) -> bool
     requires { Gridded fine vertices.now × (Frame e d f × Fits unit l) }
     ensures { result ≡ true → AnyClear vertices.now e d f l }
 {
-    if clears(vertices, e, d, l) {
-        return true;
-    }
-    if clears(vertices, e, d, opposite(l)) {
-        return true;
-    }
-    if clears(vertices, e, f, l) {
-        return true;
-    }
-    clears(vertices, e, f, opposite(l))
+    clears(vertices, e, d, l)
+        || clears(vertices, e, d, opposite(l))
+        || clears(vertices, e, f, l)
+        || clears(vertices, e, f, opposite(l))
 }
 
 // All vertices reach forward along e: the bound is 0 at least.
@@ -101,15 +76,11 @@ fn forward(vertices: &[i32], e: Point, d: Point, f: Point, l: i64) -> i64
     requires { Gridded fine vertices.now × (Frame e d f × (is_ahead vertices.now e ≡ true)) }
     ensures { Lower vertices.now e result }
 {
-    if is_far(l) {
-        return 0;
+    if !is_far(l) && 0 < l && clears_all(vertices, e, d, f, l) {
+        l
+    } else {
+        0
     }
-    if 0 < l {
-        if clears_all(vertices, e, d, f, l) {
-            return l;
-        }
-    }
-    0
 }
 
 // Not all of them do: a plane beside the polygon, or no bound.
@@ -117,16 +88,11 @@ fn beside(vertices: &[i32], e: Point, d: Point, f: Point, l: i64) -> i64
     requires { Gridded fine vertices.now × Frame e d f }
     ensures { Lower vertices.now e result }
 {
-    if is_far(l) {
-        return LEAST;
+    if !is_far(l) && l <= 0 && clears_any(vertices, e, d, f, l) {
+        l
+    } else {
+        LEAST
     }
-    if 0 < l {
-        return LEAST;
-    }
-    if clears_any(vertices, e, d, f, l) {
-        return l;
-    }
-    LEAST
 }
 
 pub fn bound(vertices: &[i32], e: Point, d: Point, f: Point) -> i64
@@ -135,7 +101,8 @@ pub fn bound(vertices: &[i32], e: Point, d: Point, f: Point) -> i64
 {
     let l = bound_hint(vertices, e, d, f);
     if is_ahead(vertices, e) {
-        return forward(vertices, e, d, f, l);
+        forward(vertices, e, d, f, l)
+    } else {
+        beside(vertices, e, d, f, l)
     }
-    beside(vertices, e, d, f, l)
 }

@@ -1,17 +1,17 @@
 // Bounds to try, in floats. All of it is a hint, and no contract says what is found: `axes` checks each bound exactly.
 // Here, in order: step, along, least_ratio, least_share, bound_hint.
-use crate::find::{Vector, dot_at, larger, size, whole};
+use crate::find::{Vector, dot_at, larger, size, smaller, whole};
 use sphere::point::Point;
 
 // A number of an axis: 1, -1 or 0.
 fn step(k: i64) -> f64 {
     if k > 0 {
-        return 1.0;
+        1.0
+    } else if k < 0 {
+        -1.0
+    } else {
+        0.0
     }
-    if k < 0 {
-        return -1.0;
-    }
-    0.0
 }
 
 fn along(axis: Point, sign: f64) -> Vector {
@@ -31,10 +31,7 @@ fn least_ratio(vertices: &[i32], e: Vector, d: Vector) -> f64 {
         if over <= 0.0 {
             return -2.0;
         }
-        let ratio = dot_at(vertices, i, e) / over;
-        if ratio < low {
-            low = ratio;
-        }
+        low = smaller(low, dot_at(vertices, i, e) / over);
     }
     low
 }
@@ -45,10 +42,7 @@ fn least_share(vertices: &[i32], e: Vector, d: Vector, f: Vector) -> f64 {
     let n = vertices.len() / 3;
     for i in 0..n {
         let over = larger(size(dot_at(vertices, i, d)), size(dot_at(vertices, i, f)));
-        let share = dot_at(vertices, i, e) / over;
-        if share < low {
-            low = share;
-        }
+        low = smaller(low, dot_at(vertices, i, e) / over);
     }
     low
 }

@@ -13,9 +13,10 @@ use Rattle.sphere.specs.declared.point.Point.{Point}
 use Rattle.sphere.specs.declared.point.Grid.{Grid}
 use Rattle.sphere.specs.declared.point.Grid.TheVariants.{Coarse, Fine}
 use Rattle.sphere.specs.Point.{limit_of, is_null}
-use Rattle.answer.specs.declared.Answer.TheVariants.{Done}
-use Rattle.answer.specs.declared.Check.{Check}
-use Rattle.answer.specs.declared.Check.TheVariants.{Passed, Failed}
+use Rattle.std.specs.declared.result.Result.TheVariants.{Ok, Err}
+use Rattle.answer.specs.declared.Reason.TheVariants.{Charset, TrailingBytes}
+use Rattle.answer.specs.declared.Verdict.TheVariants.{Done}
+use Rattle.answer.specs.Refusal.{Check}
 use Rattle.answer.specs.Answer.{number_of, answer_after}
 use Rattle.polygon.specs.Pair.{optional_check}
 use Rattle.answer.proofs.Laws.Chain.{here_passed, then_passed}
@@ -42,18 +43,18 @@ use Rattle.sheet.proofs.Laws.Writes.{passed_writable}
 use Rattle.sheet.proofs.Laws.Numbers.{Above, above_sheet, above_write}
 
 -- ---- success is told by its number
-read_passed : (b : List ℕ) (c : Check) → Numbered (Above 10) c → number_of (read_after c b).answer ≡ 0 → c ≡ Passed
-read_passed b Passed h e = refl
-read_passed b (Failed n p) h e = absurd (omega (arith, h.each n p refl))
+read_passed : (b : List ℕ) (c : Check) → Numbered (Above 10) c → number_of (read_after c b).answer ≡ 0 → c ≡ Ok tt
+read_passed b (Ok unit) h e = refl
+read_passed b (Err refusal) h e = absurd (omega (arith, h.each refusal refl))
 
-pub read_done : (b : List ℕ) → number_of (read_of b).answer ≡ 0 → sheet_check b ≡ Passed
+pub read_done : (b : List ℕ) → number_of (read_of b).answer ≡ 0 → sheet_check b ≡ Ok tt
 unfolding read_of
 read_done b e = read_passed b (sheet_check b) (above_sheet b) e
 
 -- ---- the two small claims
 not_ten : (b : List ℕ) (c : Check) → Numbered (Above 10) c → number_of (read_after c b).answer ≡ 10 → ⊥
-not_ten b Passed h e = omega arith
-not_ten b (Failed n p) h e = omega (arith, h.each n p refl)
+not_ten b (Ok unit) h e = omega arith
+not_ten b (Err refusal) h e = omega (arith, h.each refusal refl)
 
 pub read_never_ten : ReadNeverTen
 unfolding read_of
@@ -61,17 +62,17 @@ read_never_ten b e = not_ten b (sheet_check b) (above_sheet b) e
 
 -- An accepted sheet: its fields are sound, they end where it ends, and its points are accepted.
 pub record Accepted (b : List ℕ) : Type 0 where
-  pub sound : sheet_fields b ≡ Passed
+  pub sound : sheet_fields b ≡ Ok tt
   pub ends : length b ≡ sheet_end b
-  pub points : optional_check (limit_of (grid_of b)) (vertices_of b) (known_of b) (second_of b) ≡ Passed
+  pub points : optional_check (limit_of (grid_of b)) (vertices_of b) (known_of b) (second_of b) ≡ Ok tt
   pub some : has_second_point b ≡ true → is_null (second_of b) ≡ false
 
-module _ (b : List ℕ) (e : sheet_check b ≡ Passed) where
+module _ (b : List ℕ) (e : sheet_check b ≡ Ok tt) where
   no_rest : length b ≤ sheet_end b
   unfolding fields_check rest_check
   no_rest =
       let rest = (then_passed (sheet_fields b) (rest_check b) (sheet_fields_lem b e)).1 in
-      ltb-false (sheet_end b) (length b) (here_passed 24 (sheet_end b) _ rest)
+      ltb-false (sheet_end b) (length b) (here_passed TrailingBytes (sheet_end b) _ rest)
 
   pub second_some : has_second_point b ≡ true → is_null (second_of b) ≡ false
   second_some has =
@@ -117,14 +118,14 @@ one_grid g Y = go g (is_null Y)
     go Fine false = refl
 
 module _ (b : List ℕ) (a : Accepted b) where
-  pub five : five_fields b ≡ Passed
+  pub five : five_fields b ≡ Ok tt
   five = five_passed b a.sound
 
   pub coded : is_charset (charset_of b) ≡ true
   unfolding charset_check
   coded =
       let f = field_check 2 (is_allowed 1 1 1) b charset_start in
-      not-false _ (here_passed 23 charset_start _ (then_passed f _ (passed_fields b five).charset).1)
+      not-false _ (here_passed Charset charset_start _ (then_passed f _ (passed_fields b five).charset).1)
 
   pub named : is_allowed 1 120 1 (length (name_of b)) ≡ true
   named =
@@ -140,7 +141,7 @@ module _ (b : List ℕ) (a : Accepted b) where
   kept_check :
       (room : ℕ) → room ≡ length b →
       let g = grid_of b in
-      write_check (charset_of b) (name_of b) (on g (known_of b)) g (vertices_of b) (on g (second_of b)) room ≡ Passed
+      write_check (charset_of b) (name_of b) (on g (known_of b)) g (vertices_of b) (on g (second_of b)) room ≡ Ok tt
   unfolding write_check input_check grid_check
   kept_check room e =
       let n = bytes_needed (name_of b) (vertices_of b) (second_of b) in
@@ -158,19 +159,19 @@ read_writes_back b buffer are e n =
     let kept = sheet_kept b (five b a) are (second_kept b a.sound a.ends a.some are) in
     let rest : drop (length b) buffer ≡ [] = rw (sym n) (drop-length buffer) in
     rw (read_accepted b done, c)
-    (ap Done (needed b a), rw kept (ap (λ (l : List ℕ). b ++ l) rest ∙ append-nil b))
+    (ap (λ (n : ℕ). Ok (Done n)) (needed b a), rw kept (ap (λ (l : List ℕ). b ++ l) rest ∙ append-nil b))
 
 -- ---- what is written reads back
 
-write_passed : (c : Check) (place : ℕ) → Numbered (Above 9) c → number_of (answer_after c (Done place)) ≡ 0 → c ≡ Passed
-write_passed Passed place h e = refl
-write_passed (Failed n p) place h e = absurd (omega (arith, h.each n p refl))
+write_passed : (c : Check) (place : ℕ) → Numbered (Above 9) c → number_of (answer_after c (Ok (Done place))) ≡ 0 → c ≡ Ok tt
+write_passed (Ok unit) place h e = refl
+write_passed (Err refusal) place h e = absurd (omega (arith, h.each refusal refl))
 
 pub written_reads_back : WrittenReadsBack
 unfolding write_of written_to write_check
 written_reads_back zone charset name known g vertices second buffer small e =
     let room = length buffer in
-    let c : write_check charset name known g vertices second room ≡ Passed =
+    let c : write_check charset name known g vertices second room ≡ Ok tt =
     write_passed (write_check charset name known g vertices second room) _
     (above_write charset name known g vertices second room) e in
     let input = (then_passed (input_check charset name known g vertices second) _ c).0 in

@@ -11,11 +11,13 @@ use lib.ListN.{length}
 use Rattle.sphere.specs.declared.point.Grid.{Grid}
 use Rattle.sphere.specs.declared.point.GridPoint.{GridPoint}
 use Rattle.sphere.specs.Point.{limit_of}
-use Rattle.answer.specs.declared.Answer.TheVariants.{Done}
-use Rattle.answer.specs.declared.Check.{Check}
-use Rattle.answer.specs.declared.Check.TheVariants.{Passed, Failed}
+use Rattle.std.specs.declared.result.Result.TheVariants.{Ok, Err}
+use Rattle.answer.specs.declared.Reason.TheVariants.{Charset, FieldLength, OtherGrid, SheetRoom}
+use Rattle.answer.specs.declared.Verdict.TheVariants.{Done}
+use Rattle.answer.specs.Refusal.{Check}
 use Rattle.answer.specs.Answer.{number_of, answer_after}
 use Rattle.answer.specs.Chain.{◌then◌, fails_here}
+use Rattle.answer.proofs.Laws.Chain.{failed_not_passed}
 use Rattle.answer.proofs.Laws.Numbers.{Numbered, Other, ◌both◌, if_numbered}
 use Rattle.polygon.specs.Grids.{is_mixed, grid_check, grid_of_second}
 use Rattle.polygon.proofs.Laws.Numbers.{list_numbered, optional_numbered}
@@ -30,25 +32,25 @@ input_other : (charset : ℕ) (name : List ℕ) (known : GridPoint) (g : Grid) (
 unfolding input_check grid_check
 input_other charset name known g vertices second =
     let list = list_numbered (Other 25) (limit_of g) vertices (λ e. omega arith) in
-    if_numbered 23 (not (is_charset charset)) (λ e. omega arith)
-    both if_numbered 22 (not (is_name_length (length name))) (λ e. omega arith)
-    both (list both if_numbered 28 (is_mixed g (known.grid ∷ grid_of_second g second ∷ [])) (λ e. omega arith))
+    if_numbered Charset (not (is_charset charset)) (λ e. omega arith)
+    both if_numbered FieldLength (not (is_name_length (length name))) (λ e. omega arith)
+    both (list both if_numbered OtherGrid (is_mixed g (known.grid ∷ grid_of_second g second ∷ [])) (λ e. omega arith))
     both optional_numbered (Other 25) (limit_of g) vertices list (λ n l m e. omega (arith, m, e)) known.point
     (λ e. omega arith) second.point
 
 short_after : (before : Check) (room n : ℕ) → Numbered (Other 25) before →
-    ShortBuffer (answer_after (before then fails_here 25 n (ltb room n)) (Done n)) before room n
-short_after (Failed number place) room n other = record {
-  refused→short = λ e. absurd (other.each number place refl e);
-  short→refused = λ e h. let z : ◌≡◌ {A = ℕ} 0 1 = cc in absurd (omega arith);
+    ShortBuffer (answer_after (before then fails_here SheetRoom n (ltb room n)) (Ok (Done n))) before room n
+short_after (Err refusal) room n other = record {
+  refused→short = λ e. absurd (other.each refusal refl e);
+  short→refused = λ e h. failed_not_passed e;
 }
-short_after Passed room n other = record {
+short_after (Ok unit) room n other = record {
   refused→short = λ e. go (ltb room n) refl e;
   short→refused = λ e h. rw (lt-ltb room n h);
 }
   where
-    go : (t : Bool) → ltb room n ≡ t → number_of (answer_after (fails_here 25 n t) (Done n)) ≡ 25 →
-        (Passed ≡ Passed) × (room < n)
+    go : (t : Bool) → ltb room n ≡ t → number_of (answer_after (fails_here SheetRoom n t) (Ok (Done n))) ≡ 25 →
+        (◌≡◌ {A = Check} (Ok tt) (Ok tt)) × (room < n)
     go true t e = (refl, ltb-true room n t)
     go false t e = absurd (omega (arith, e))
 

@@ -11,10 +11,12 @@ use Rattle.sphere.specs.declared.point.Grid.TheVariants.{Coarse, Fine}
 use Rattle.sphere.specs.declared.point.GridPoint.{GridPoint}
 use Rattle.big_endian.specs.Bytes.{AreBytes}
 use Rattle.polygon.specs.Pair.{no_second}
-use Rattle.answer.specs.declared.Answer.{Answer}
-use Rattle.answer.specs.declared.Answer.TheVariants.{Done, Refused}
-use Rattle.answer.specs.declared.Check.{Check}
-use Rattle.answer.specs.declared.Check.TheVariants.{Passed}
+use Rattle.std.specs.declared.result.Result.TheVariants.{Ok, Err}
+use Rattle.answer.specs.declared.Reason.TheVariants.{Charset, FieldLength, SheetRoom}
+use Rattle.answer.specs.Refusal.{refused_at}
+use Rattle.answer.specs.Refusal.{Answer}
+use Rattle.answer.specs.declared.Verdict.TheVariants.{Done}
+use Rattle.answer.specs.Refusal.{Check}
 use Rattle.answer.specs.Answer.{number_of, place_of}
 use Rattle.polygon.specs.Vertices.{vertices_count}
 use Rattle.answer.specs.Chain.{◌then◌, fails_if}
@@ -34,7 +36,7 @@ name_in s b = take s.name_len (drop s.name_at b)
 pub record ReadsAs (zone charset : ℕ) (name : List ℕ) (known : Point) (g : Grid) (vertices : List ℤ) (second : Point)
     (b : List ℕ) : Type 0 where
   pub handed_back : read_of b ≡ record {
-    answer = Done (length b);
+    answer = Ok (Done (length b));
     zone = zone;
     charset = charset;
     name_at = name_at;
@@ -64,7 +66,7 @@ ReadWritesBack =
     let s = read_of b in
     let known = on s.grid s.known in
     let second = on s.grid s.second in
-    (write_of s.charset (name_in s b) known s.grid (vertices_of b) second (length buffer) ≡ Done (length b))
+    (write_of s.charset (name_in s b) known s.grid (vertices_of b) second (length buffer) ≡ Ok (Done (length b)))
     × (written_to s.zone s.charset (name_in s b) known s.grid (vertices_of b) second buffer ≡ b)
 
 -- Writing on mixed grids is refused with 28, exactly if 23, 22 and 10 do not hold.
@@ -72,13 +74,13 @@ abbrev pub WriteMixedExactly : Type 0
 WriteMixedExactly =
     (charset : ℕ) (name : List ℕ) (known : GridPoint) (g : Grid) (vertices : List ℤ) (second : GridPoint) (room : ℕ) →
     Mixed (write_of charset name known g vertices second room)
-    (fails_if 23 (not (is_charset charset)) then fails_if 22 (not (is_name_length (length name))) then list_check vertices)
+    (fails_if Charset (not (is_charset charset)) then fails_if FieldLength (not (is_name_length (length name))) then list_check vertices)
     (is_mixed g (known.grid ∷ grid_of_second g second ∷ []))
 
 -- 25 exactly when nothing else is wrong and the buffer is shorter than the sheet's own bytes; its place is their number.
 pub record ShortBuffer (answer : Answer) (before : Check) (room size : ℕ) : Type 0 where
-  pub refused→short : number_of answer ≡ 25 → (before ≡ Passed) × (room < size)
-  pub short→refused : before ≡ Passed → room < size → answer ≡ Refused 25 size
+  pub refused→short : number_of answer ≡ 25 → (before ≡ Ok tt) × (room < size)
+  pub short→refused : before ≡ Ok tt → room < size → answer ≡ Err (refused_at SheetRoom size)
 
 abbrev pub ShortBufferExactly : Type 0
 ShortBufferExactly =
@@ -129,11 +131,11 @@ octant_pair_bytes = octant_bytes 5 ++ (6 ∷ 0 ∷ 12 ∷ coordinates (1 ∷ 1 �
 abbrev pub OctantPairSheet : Type 0
 OctantPairSheet =
     (sheet_bytes 7 1 (65 ∷ []) centre Coarse octant second ≡ octant_pair_bytes)
-    × ((read_of octant_pair_bytes).answer ≡ Done 84)
+    × ((read_of octant_pair_bytes).answer ≡ Ok (Done 84))
 
 -- The same octant on the fine grid: tag 7 in place of 5.
 abbrev pub OctantFineSheet : Type 0
 OctantFineSheet =
     (sheet_bytes 7 1 (65 ∷ []) centre Fine octant no_second ≡ octant_bytes 7)
-    × ((read_of (octant_bytes 7)).answer ≡ Done 69)
+    × ((read_of (octant_bytes 7)).answer ≡ Ok (Done 69))
     × ((read_of (octant_bytes 7)).grid ≡ Fine)

@@ -1,31 +1,18 @@
--- Opening a sheet: what the code hands on from there, and its scratch space. Defined, in order: refused_open,
+-- Opening a sheet: what the code hands on from there, and its scratch space. Defined, in order: opened_of,
 -- opened_after; room_for, decoded_of, BoxesFor. Readers need none of it: reading and judging are stated without.
-use Rattle.std.specs.Prelude.{◌≡◌, false, List, ℕ, ◌-◌, ◌/◌, ℤ, pos, length}
-use Rattle.sphere.specs.declared.point.Grid.TheVariants.{Coarse}
-use Rattle.answer.specs.declared.Check.{Check}
-use Rattle.answer.specs.declared.Check.TheVariants.{Passed, Failed}
-use Rattle.polygon.specs.Pair.{no_second}
+use Rattle.std.specs.Prelude.{◌≡◌, List, ℕ, ◌-◌, ◌/◌, ℤ, length, Result}
+use Rattle.std.specs.declared.result.Result.TheVariants.{Ok}
+use Rattle.answer.specs.declared.Refusal.{Refusal}
+use Rattle.answer.specs.Refusal.{Check}
 use Rattle.fields.specs.Fields.{grid_of, has_second_point, five_fields, fields_check}
+use Rattle.fields.specs.Parts.{value_after}
 use Rattle.judging.specs.Accept.{BoxRoom}
 use Rattle.sheet.specs.declared.open.Opened.{Opened}
 use Rattle.sheet.specs.Sheet.{name_length, known_of, vertex_count_of, vertices_of, second_of, loaded_after}
 
--- What the checks say, and the points of a sheet that passed.
-abbrev pub refused_open : ℕ → ℕ → Opened
-refused_open number place = record {
-  check = Failed number place;
-  grid = Coarse;
-  known = record { x = pos 0; y = pos 0; z = pos 0 };
-  second = no_second;
-  has_second = false;
-  count = 0;
-  name = 0;
-}
-
-abbrev pub opened_after : Check → List ℕ → Opened
-opened_after (Failed number place) b = refused_open number place
-opened_after Passed b = record {
-  check = Passed;
+-- The points of a sheet that passed, or why it is refused.
+abbrev pub opened_of : List ℕ → Opened
+opened_of b = record {
   grid = grid_of b;
   known = known_of b;
   second = second_of b;
@@ -33,6 +20,9 @@ opened_after Passed b = record {
   count = vertex_count_of b;
   name = name_length b;
 }
+
+abbrev pub opened_after : Check → List ℕ → Result Opened Refusal
+opened_after check b = value_after check (opened_of b)
 
 -- ---- scratch space
 
@@ -46,4 +36,4 @@ decoded_of b scratch = loaded_after (fields_check b) b scratch
 
 -- Numbers enough for the boxes of a sheet of these bytes.
 pub record BoxesFor (b : List ℕ) (boxes : List ℤ) : Type 0 where
-  pub enough : five_fields b ≡ Passed → BoxRoom (vertices_of b) boxes
+  pub enough : five_fields b ≡ Ok tt → BoxRoom (vertices_of b) boxes

@@ -7,9 +7,10 @@ use Rattle.sphere.specs.declared.point.Point.{Point}
 use Rattle.sphere.specs.declared.point.Grid.TheVariants.{Coarse}
 use Rattle.sphere.specs.Point.{limit_of}
 use Rattle.big_endian.specs.Bytes.{byte_at, short_at, word_at, point_at, ints_at}
-use Rattle.answer.specs.declared.Answer.TheVariants.{Done, Refused}
-use Rattle.answer.specs.declared.Check.{Check}
-use Rattle.answer.specs.declared.Check.TheVariants.{Passed, Failed}
+use Rattle.std.specs.declared.result.Result.TheVariants.{Ok, Err}
+use Rattle.answer.specs.declared.Verdict.TheVariants.{Done}
+use Rattle.answer.specs.declared.Refusal.{Refusal}
+use Rattle.answer.specs.Refusal.{Check}
 use Rattle.answer.specs.Chain.{◌then◌}
 use Rattle.polygon.specs.Checks.{accept_check}
 use Rattle.polygon.specs.Pair.{second_check, no_second}
@@ -57,15 +58,15 @@ plain_check b = fields_check b then accept_check (limit_of (grid_of b)) (vertice
 -- The second point, where the field is there: one of all zero fails too.
 unfoldable pub sheet_second_check : List ℕ → Check
 sheet_second_check b =
-    cond (has_second_point b) (second_check (limit_of (grid_of b)) (vertices_of b) (known_of b) (second_of b)) Passed
+    cond (has_second_point b) (second_check (limit_of (grid_of b)) (vertices_of b) (known_of b) (second_of b)) (Ok tt)
 
 unfoldable pub sheet_check : List ℕ → Check
 sheet_check b = plain_check b then sheet_second_check b
 
 -- A refusal, and zeros beside it; the coarse grid is the number 0.
-abbrev pub refused_sheet : ℕ → ℕ → Sheet
-refused_sheet number place = record {
-  answer = Refused number place;
+abbrev pub refused_sheet : Refusal → Sheet
+refused_sheet refusal = record {
+  answer = Err refusal;
   zone = 0;
   charset = 0;
   name_at = 0;
@@ -77,9 +78,9 @@ refused_sheet number place = record {
 }
 
 abbrev pub read_after : Check → List ℕ → Sheet
-read_after (Failed number place) b = refused_sheet number place
-read_after Passed b = record {
-  answer = Done (length b);
+read_after (Err refusal) b = refused_sheet refusal
+read_after (Ok unit) b = record {
+  answer = Ok (Done (length b));
   zone = zone_of b;
   charset = charset_of b;
   name_at = name_at;
@@ -96,8 +97,8 @@ read_of b = read_after (sheet_check b) b
 
 -- The vertices in front of a list of numbers, if a check passed.
 abbrev pub loaded_after : Check → List ℕ → List ℤ → List ℤ
-loaded_after (Failed number place) b out = out
-loaded_after Passed b out = vertices_of b ++ drop (vertex_count_of b * 3) out
+loaded_after (Err refusal) b out = out
+loaded_after (Ok unit) b out = vertices_of b ++ drop (vertex_count_of b * 3) out
 
 -- What loading leaves in the numbers that a user lends: the vertices of an accepted sheet, and else all as it was.
 unfoldable pub loaded_of : List ℕ → List ℤ → List ℤ

@@ -8,9 +8,11 @@ use Rattle.sphere.specs.declared.point.Grid.{Grid}
 use Rattle.sphere.specs.declared.point.GridPoint.{GridPoint}
 use Rattle.sphere.specs.Point.{limit_of, Within, is_null}
 use Rattle.big_endian.specs.Bytes.{short_bytes, word_bytes, ints_bytes, point_bytes}
-use Rattle.answer.specs.declared.Answer.{Answer}
-use Rattle.answer.specs.declared.Answer.TheVariants.{Done}
-use Rattle.answer.specs.declared.Check.{Check}
+use Rattle.std.specs.declared.result.Result.TheVariants.{Ok}
+use Rattle.answer.specs.declared.Reason.TheVariants.{Charset, FieldLength, SheetRoom}
+use Rattle.answer.specs.Refusal.{Answer}
+use Rattle.answer.specs.declared.Verdict.TheVariants.{Done}
+use Rattle.answer.specs.Refusal.{Check}
 use Rattle.answer.specs.Answer.{answer_after}
 use Rattle.answer.specs.Chain.{◌then◌, fails_here, fails_if}
 use Rattle.polygon.specs.Pair.{optional_check}
@@ -45,20 +47,20 @@ bytes_needed name vertices second = 32 + length name + length vertices * 4 + sec
 
 unfoldable pub input_check : ℕ → List ℕ → GridPoint → Grid → List ℤ → GridPoint → Check
 input_check charset name known g vertices second =
-    fails_if 23 (not (is_charset charset))
-    then fails_if 22 (not (is_name_length (length name)))
+    fails_if Charset (not (is_charset charset))
+    then fails_if FieldLength (not (is_name_length (length name)))
     then grid_check vertices (is_mixed g (known.grid ∷ grid_of_second g second ∷ []))
     then optional_check (limit_of g) vertices known.point second.point
 
 unfoldable pub write_check : ℕ → List ℕ → GridPoint → Grid → List ℤ → GridPoint → ℕ → Check
 write_check charset name known g vertices second room =
     input_check charset name known g vertices second
-    then fails_here 25 (bytes_needed name vertices second.point) (ltb room (bytes_needed name vertices second.point))
+    then fails_here SheetRoom (bytes_needed name vertices second.point) (ltb room (bytes_needed name vertices second.point))
 
 unfoldable pub write_of : ℕ → List ℕ → GridPoint → Grid → List ℤ → GridPoint → ℕ → Answer
 write_of charset name known g vertices second room =
     answer_after (write_check charset name known g vertices second room)
-    (Done (bytes_needed name vertices second.point))
+    (Ok (Done (bytes_needed name vertices second.point)))
 
 -- The buffer after the call.
 unfoldable pub written_to : ℕ → ℕ → List ℕ → GridPoint → Grid → List ℤ → GridPoint → List ℕ → List ℕ

@@ -1,13 +1,13 @@
 // Reading a sheet. Here, in order: Sheet, refused, accepted, opened, sheet_check, read, load. Any bytes.
 ghost use Rattle.std.specs.Prelude.{◌≡◌};
-ghost use Rattle.answer.specs.declared.Check.TheVariants.{Passed};
 ghost use Rattle.fields.specs.Fields.{sheet_fields};
 ghost use Rattle.sheet.specs.Sheet.{sheet_check, refused_sheet, read_after, read_of, loaded_of};
-ghost use Rattle.sheet.specs.Open.{opened_after};
+ghost use Rattle.sheet.specs.Open.{opened_of, opened_after};
 
 use crate::open::{Opened, decode_vertices, open_into};
-use answer::{Answer, Check};
+use answer::{Answer, Check, Refusal, Verdict};
 use big_endian::read;
+use judging::accept::no_second;
 use sphere::point::{Grid, Point};
 
 // What reading hands back: document 01's answer, and the parts of the sheet, all zero on a refusal, and the coarse
@@ -25,45 +25,43 @@ pub struct Sheet {
     pub grid: Grid,
 }
 
-fn refused(number: u32, place: usize) -> Sheet
-    ensures { result ≡ refused_sheet number place }
+fn refused(refusal: Refusal) -> Sheet
+    ensures { result ≡ refused_sheet refusal }
 {
     Sheet {
-        answer: Answer::Refused(number, place),
+        answer: Err(refusal),
         zone: 0,
         charset: 0,
         name_at: 0,
         name_len: 0,
         known: Point { x: 0, y: 0, z: 0 },
         vertex_count: 0,
-        second: Point { x: 0, y: 0, z: 0 },
+        second: no_second(),
         grid: Grid::Coarse,
     }
 }
 
 // A sheet that passed every check.
+#[tactic(auto, using(crate::proofs::Laws::Places::known_stands, fields::proofs::Laws::Fields::five_passed))]
 fn accepted(b: &[u8], sheet: Opened) -> Sheet
-    requires { (sheet_fields b.now ≡ Passed) × (sheet ≡ opened_after Passed b.now) }
-    ensures { result ≡ read_after Passed b.now }
+    requires { (sheet_fields b.now ≡ Ok tt) × (sheet ≡ opened_of b.now) }
+    ensures { result ≡ read_after (Ok tt) b.now }
 {
-    let grid = sheet.grid;
-    let known = sheet.known;
-    let second = sheet.second;
     Sheet {
-        answer: Answer::Done(b.len()),
+        answer: Ok(Verdict::Done(b.len())),
         zone: read::word_at(b, 3),
         charset: read::byte_at(b, fields::CHARSET_START + 3),
         name_at: fields::NAME_START + 3,
         name_len: sheet.name,
-        known: known,
+        known: sheet.known,
         vertex_count: sheet.count,
-        second: second,
-        grid: grid,
+        second: sheet.second,
+        grid: sheet.grid,
     }
 }
 
 // A sheet, opened in scratch space for any.
-pub fn opened(b: &[u8]) -> Opened
+pub fn opened(b: &[u8]) -> Result<Opened, Refusal>
     ensures { result ≡ opened_after (sheet_check b.now) b.now }
 {
     let mut scratch = [0i32; 12288];
@@ -72,36 +70,36 @@ pub fn opened(b: &[u8]) -> Opened
 }
 
 // All checks of a sheet: 20 to 24, then 11 to 16, then 19.
+#[tactic(auto, using(fields::proofs::Laws::Parts::values))]
 pub fn sheet_check(b: &[u8]) -> Check
     ensures { result ≡ sheet_check b.now }
 {
-    opened(b).check
+    opened(b)?;
+    Ok(())
 }
 
 // Reads a sheet, and hands back its parts.
+#[tactic(auto, using(fields::proofs::Laws::Parts::values, crate::proofs::Laws::Reads::sheet_sound), unfolding(crate::specs::Sheet::read_of))]
 pub fn read(b: &[u8]) -> Sheet
     ensures { result ≡ read_of b.now }
 {
-    let sheet = opened(b);
-    let check = sheet.check;
-    match check {
-        Check::Passed => accepted(b, sheet),
-        Check::Failed(number, place) => refused(number, place),
+    match opened(b) {
+        Ok(sheet) => accepted(b, sheet),
+        Err(refusal) => refused(refusal),
     }
 }
 
 // The same, and the vertices go to the front of `out`. A refusal leaves it as it was.
+#[tactic(auto, using(fields::proofs::Laws::Parts::values, crate::proofs::Laws::Reads::sheet_sound, crate::proofs::Laws::Reads::sheet_five, crate::proofs::Laws::Places::vertices_stand), unfolding(crate::specs::Sheet::read_of, crate::specs::Sheet::loaded_of))]
 pub fn load(b: &[u8], out: &mut [i32; 12288]) -> Sheet
     ensures { (result ≡ read_of b.now)
         × (out.new ≡ loaded_of b.now out.old) }
 {
-    let sheet = opened(b);
-    let check = sheet.check;
-    match check {
-        Check::Passed => {
+    match opened(b) {
+        Ok(sheet) => {
             decode_vertices(b, sheet.name, sheet.count, out);
             accepted(b, sheet)
         }
-        Check::Failed(number, place) => refused(number, place),
+        Err(refusal) => refused(refusal),
     }
 }

@@ -20,6 +20,7 @@ fn put_head(b: &mut [u8], at: usize, tag: u8, n: u32)
     store::put_short(b, at + 1, n)
 }
 
+#[tactic(auto, using(crate::proofs::Laws::Stores::stored))]
 fn put_zone(b: &mut [u8], zone: u32)
     requires { 7 ≤ length b.old }
     ensures { b.new ≡ sets b.old 0 (field_bytes 1 (word_bytes zone)) }
@@ -28,6 +29,7 @@ fn put_zone(b: &mut [u8], zone: u32)
     store::put_word(b, 3, zone)
 }
 
+#[tactic(auto, using(crate::proofs::Laws::Stores::stored))]
 fn put_charset(b: &mut [u8], charset: u32)
     requires { (11 ≤ length b.old) × (charset < 256) }
     ensures { b.new ≡ sets b.old 7 (field_bytes 2 (charset ∷ [])) }
@@ -36,6 +38,7 @@ fn put_charset(b: &mut [u8], charset: u32)
     b[10] = charset as u8;
 }
 
+#[tactic(auto, using(crate::proofs::Laws::Stores::stored))]
 fn put_name(b: &mut [u8], name: &[u8])
     requires { (14 + length name.now ≤ length b.old) × (length name.now ≤ 120) }
     ensures { b.new ≡ sets b.old 11 (field_bytes 3 name.now) }
@@ -45,6 +48,7 @@ fn put_name(b: &mut [u8], name: &[u8])
 }
 
 // The field of the known point, and of the second one.
+#[tactic(auto, using(crate::proofs::Laws::Stores::stored))]
 fn put_place(b: &mut [u8], at: usize, tag: u8, p: Point)
     requires { (at + 15 ≤ length b.old) × Within 2147483647 p }
     ensures { b.new ≡ sets b.old at (field_bytes tag (point_bytes p)) }
@@ -53,6 +57,7 @@ fn put_place(b: &mut [u8], at: usize, tag: u8, p: Point)
     store::put_point(b, at + 3, p)
 }
 
+#[tactic(auto, using(crate::proofs::Laws::Stores::stored))]
 fn put_vertices(b: &mut [u8], at: usize, grid: Grid, vertices: &[i32])
     requires { (at + 3 + length vertices.now * 4 ≤ length b.old) × (length vertices.now ≤ 12288) }
     ensures { b.new
@@ -63,6 +68,7 @@ fn put_vertices(b: &mut [u8], at: usize, grid: Grid, vertices: &[i32])
 }
 
 // No byte changes where there is no second point.
+#[tactic(auto, unfolding(crate::specs::Write::second_size, crate::specs::Write::second_bytes))]
 fn put_second(b: &mut [u8], at: usize, second: Point)
     requires { (at + second_size second ≤ length b.old) × Within 2147483647 second }
     ensures { b.new ≡ sets b.old at (second_bytes second) }
@@ -73,6 +79,7 @@ fn put_second(b: &mut [u8], at: usize, second: Point)
 }
 
 // The whole sheet, in the first bytes.
+#[tactic(auto, using(crate::proofs::Laws::Stores::sheet_stored))]
 pub fn put_sheet(
     b: &mut [u8],
     zone: u32,

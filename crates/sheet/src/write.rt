@@ -5,11 +5,12 @@ ghost use Rattle.std.specs.Prelude.{◌≡◌, ◌≤◌, length};
 ghost use Rattle.sheet.specs.Write.{second_size, bytes_needed, input_check, write_of, written_to};
 
 use crate::store;
-use answer::{Answer, Check};
+use answer::{Answer, Check, Reason, Verdict};
 use judging::second::optional_check;
 use polygon::grids::{grid_check, grid_of_second, is_mixed};
 use sphere::point::{Grid, GridPoint, Point, is_null};
 
+#[tactic(auto, unfolding(crate::specs::Write::input_check))]
 fn input_check(
     charset: u32,
     name: &[u8],
@@ -20,28 +21,25 @@ fn input_check(
 ) -> Check
     ensures { result ≡ input_check charset name.now known grid vertices.now second }
 {
-    let g = known.grid;
     if !fields::is_charset(charset) {
-        return Check::Failed(23, 0);
+        return Err(Reason::Charset.at(0));
     }
     if !fields::is_allowed(name.len(), 1, 120, 1) {
-        return Check::Failed(22, 0);
+        return Err(Reason::FieldLength.at(0));
     }
-    match grid_check(vertices, is_mixed(grid, g, grid_of_second(grid, second))) {
-        Check::Passed => {}
-        Check::Failed(number, place) => return Check::Failed(number, place),
-    }
+    grid_check(
+        vertices,
+        is_mixed(grid, known.grid, grid_of_second(grid, second)),
+    )?;
     optional_check(grid, vertices, known.point, second.point)
 }
 
 // The bytes of the second point's field.
+#[tactic(auto, unfolding(crate::specs::Write::second_size))]
 fn second_size(second: Point) -> usize
     ensures { (result ≡ second_size second) × (result ≤ 15) }
 {
-    if is_null(second) {
-        return 0;
-    }
-    15
+    if is_null(second) { 0 } else { 15 }
 }
 
 // The bytes that a sheet takes.
@@ -53,6 +51,7 @@ fn bytes_needed(name: &[u8], vertices: &[i32], second: Point) -> usize
 }
 
 // What `write` would answer with `room` bytes for the sheet.
+#[tactic(auto, using(crate::proofs::Laws::Writes::input_sizes, std::proofs::lemmas::Bool::Decides::nat_tests), unfolding(crate::specs::Write::write_of, crate::specs::Write::write_check))]
 pub fn write_answer(
     charset: u32,
     name: &[u8],
@@ -64,19 +63,16 @@ pub fn write_answer(
 ) -> Answer
     ensures { result ≡ write_of charset name.now known grid vertices.now second room }
 {
-    if let Check::Failed(number, place) = input_check(
-        charset, name, known, grid, vertices, second,
-    ) {
-        return Answer::Refused(number, place);
-    }
+    input_check(charset, name, known, grid, vertices, second)?;
     let needed = bytes_needed(name, vertices, second.point);
     if room < needed {
-        return Answer::Refused(25, needed);
+        return Err(Reason::SheetRoom.at(needed));
     }
-    Answer::Done(needed)
+    Ok(Verdict::Done(needed))
 }
 
 // Writes a sheet into the first bytes of the buffer. A refusal changes none.
+#[tactic(auto, using(crate::proofs::Laws::Writes::answered, crate::proofs::Laws::Writes::refused_kept, crate::proofs::Laws::Writes::passed_stored))]
 pub fn write(
     zone: u32,
     charset: u32,
@@ -94,15 +90,7 @@ pub fn write(
         ≡ written_to zone charset name.now known grid vertices.now second
         buffer.old }
 {
-    if let Check::Failed(number, place) = input_check(
-        charset, name, known, grid, vertices, second,
-    ) {
-        return Answer::Refused(number, place);
-    }
-    let needed = bytes_needed(name, vertices, second.point);
-    if buffer.len() < needed {
-        return Answer::Refused(25, needed);
-    }
+    let written = write_answer(charset, name, known, grid, vertices, second, buffer.len())?;
     store::put_sheet(
         buffer,
         zone,
@@ -113,5 +101,5 @@ pub fn write(
         vertices,
         second.point,
     );
-    Answer::Done(needed)
+    Ok(written)
 }

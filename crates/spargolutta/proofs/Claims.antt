@@ -13,9 +13,10 @@ use Rattle.sphere.specs.declared.point.Grid.{Grid}
 use Rattle.sphere.specs.declared.point.Grid.TheVariants.{Coarse, Fine}
 use Rattle.sphere.specs.declared.point.Point.{Point}
 use Rattle.sphere.specs.Point.{is_grid_number, grid_numbered, is_null}
-use Rattle.answer.specs.declared.Answer.TheVariants.{Done}
-use Rattle.answer.specs.declared.Check.{Check}
-use Rattle.answer.specs.declared.Check.TheVariants.{Passed, Failed}
+use Rattle.std.specs.declared.result.Result.TheVariants.{Ok, Err}
+use Rattle.answer.specs.declared.Reason.TheVariants.{ResultRoom}
+use Rattle.answer.specs.declared.Verdict.TheVariants.{Done}
+use Rattle.answer.specs.Refusal.{Check}
 use Rattle.answer.specs.Answer.{number_of, answer_after}
 use Rattle.answer.proofs.Laws.Numbers.{Numbered, ◌both◌, here_numbered}
 use Rattle.polygon.specs.Grids.{is_mixed, grid_of_second}
@@ -62,28 +63,28 @@ written_reads_from_c zone charset name known second vertices g buffer small e =
     (on (point_grid g) second) buffer small e
 
 -- ---- the vertices
-zero_passed : (c : Check) → Numbered (Above 10) c → number_of (answer_after c (Done 0)) ≡ 0 → c ≡ Passed
-zero_passed Passed h e = refl
-zero_passed (Failed n p) h e = absurd (omega (arith, h.each n p refl))
+zero_passed : (c : Check) → Numbered (Above 10) c → number_of (answer_after c (Ok (Done 0))) ≡ 0 → c ≡ Ok tt
+zero_passed (Ok unit) h e = refl
+zero_passed (Err refusal) h e = absurd (omega (arith, h.each refusal refl))
 
 module _ (b buffer : List ℕ) where
   above : Numbered (Above 10) (fill_check b (length buffer))
   unfolding fill_check
   above =
       let n = vertex_count_of b * 12 in
-      above_sheet b both here_numbered 27 n (ltb (length buffer) n) (lit< tt)
+      above_sheet b both here_numbered ResultRoom n (ltb (length buffer) n) (lit< tt)
 
-  done : number_of (answer_after (fill_check b (length buffer)) (Done 0)) ≡ 0 → fill_check b (length buffer) ≡ Passed
+  done : number_of (answer_after (fill_check b (length buffer)) (Ok (Done 0))) ≡ 0 → fill_check b (length buffer) ≡ Ok tt
   done e = zero_passed (fill_check b (length buffer)) above e
 
-  row_vertices : sheet_check b ≡ Passed → outline_of (row_of b) ≡ vertices_of b
+  row_vertices : sheet_check b ≡ Ok tt → outline_of (row_of b) ≡ vertices_of b
   unfolding row_of
   row_vertices ok =
       let spans = passed_spans b (sheet_five b ok) in
       ring_part b (vertices_start b + 3) (vertex_count_of b) (omega (arith, spans.second_at, spans.ends))
 
   -- the bytes that are handed out
-  handed : fill_check b (length buffer) ≡ Passed →
+  handed : fill_check b (length buffer) ≡ Ok tt →
       take ((read_of b).vertex_count * 12) (filled_to b buffer) ≡ row_of b
   unfolding filled_to
   handed passed =
@@ -106,7 +107,7 @@ point_grid_lem Coarse = refl
 point_grid_lem Fine = refl
 
 -- Whole twelves, so that they are the list.
-row_listed : (b : List ℕ) → sheet_check b ≡ Passed → listed_of (row_of b) ≡ vertices_of b
+row_listed : (b : List ℕ) → sheet_check b ≡ Ok tt → listed_of (row_of b) ≡ vertices_of b
 unfolding listed_of
 row_listed b ok =
     let n = row_length b ok in

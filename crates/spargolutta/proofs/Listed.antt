@@ -15,8 +15,10 @@ use Rattle.sphere.specs.declared.point.Grid.{Grid}
 use Rattle.sphere.specs.declared.point.GridPoint.{GridPoint}
 use Rattle.big_endian.specs.Bytes.{ints_at}
 use Rattle.big_endian.proofs.Laws.Rows.{ints_at-length}
-use Rattle.answer.specs.declared.Check.{Check}
-use Rattle.answer.specs.declared.Check.TheVariants.{Passed, Failed}
+use Rattle.std.specs.declared.result.Result.TheVariants.{Ok, Err}
+use Rattle.answer.specs.declared.Reason.TheVariants.{Charset, FieldLength, VertexList}
+use Rattle.answer.specs.declared.Refusal.{Refusal}
+use Rattle.answer.specs.Refusal.{Check, fails, refused_at}
 use Rattle.answer.specs.Chain.{◌then◌, fails_if}
 use Rattle.polygon.specs.Checks.{list_check}
 use Rattle.polygon.specs.Grids.{grid_check}
@@ -33,25 +35,24 @@ module _ (b : List ℕ) (n : ℕ) (rest : List ℤ) {left : List ℤ} (e : left 
   pub decoded_room : n ≤ length left
   decoded_room = omega (arith, ap length e ∙ length-append (ints_at b 0 n) rest, ints_at-length b 0 n)
 
-pub list_none : list_check [] ≡ Failed 10 0
+pub list_none : list_check [] ≡ fails VertexList 0
 unfolding list_check
 list_none = refl
 
 -- Over 4,096 vertices.
-pub list_long : (vs : List ℤ) → 4096 < length vs / 3 → list_check vs ≡ Failed 10 0
+pub list_long : (vs : List ℤ) → 4096 < length vs / 3 → list_check vs ≡ fails VertexList 0
 unfolding list_check
 list_long vs h =
     rw (lt-leb (length vs / 3) 4096 h, and-false (leb 3 (length vs / 3)), and-false (eqb (length vs % 3) 0))
 
-record Refusal (c : Check) : Type 0 where
-  pub number : ℕ
-  pub place : ℕ
-  pub is : c ≡ Failed number place
+record Refused (c : Check) : Type 0 where
+  pub refusal : Refusal
+  pub is : c ≡ Err refusal
 
-refusal : (a b : Check) → Refusal (a then b then Failed 10 0)
-refusal (Failed n p) b = record { number = n; place = p; is = refl }
-refusal Passed (Failed n p) = record { number = n; place = p; is = refl }
-refusal Passed Passed = record { number = 10; place = 0; is = refl }
+refused : (a b : Check) → Refused (a then b then fails VertexList 0)
+refused (Err first) b = record { refusal = first; is = refl }
+refused (Ok unit) (Err second) = record { refusal = second; is = refl }
+refused (Ok one) (Ok two) = record { refusal = refused_at VertexList 0; is = refl }
 
 module _ (charset : ℕ) (name : List ℕ) (known : GridPoint) (g : Grid) (second : GridPoint) where
   pub record Alike (vs ws : List ℤ) : Type 0 where
@@ -59,16 +60,16 @@ module _ (charset : ℕ) (name : List ℕ) (known : GridPoint) (g : Grid) (secon
     pub buffers : (zone : ℕ) (buffer : List ℕ) →
         written_to zone charset name known g vs second buffer ≡ written_to zone charset name known g ws second buffer
 
-  ten : (vs : List ℤ) → list_check vs ≡ Failed 10 0 →
+  ten : (vs : List ℤ) → list_check vs ≡ fails VertexList 0 →
       input_check charset name known g vs second
-      ≡ fails_if 23 (not (is_charset charset)) then fails_if 22 (not (is_name_length (length name))) then Failed 10 0
+      ≡ fails_if Charset (not (is_charset charset)) then fails_if FieldLength (not (is_name_length (length name))) then fails VertexList 0
   unfolding input_check grid_check
   ten vs e = rw e
 
-  pub alike_refused : (vs ws : List ℤ) → list_check vs ≡ Failed 10 0 → list_check ws ≡ Failed 10 0 → Alike vs ws
+  pub alike_refused : (vs ws : List ℤ) → list_check vs ≡ fails VertexList 0 → list_check ws ≡ fails VertexList 0 → Alike vs ws
   unfolding write_of written_to write_check
   alike_refused vs ws e f =
-      let r = refusal (fails_if 23 (not (is_charset charset))) (fails_if 22 (not (is_name_length (length name)))) in
+      let r = refused (fails_if Charset (not (is_charset charset))) (fails_if FieldLength (not (is_name_length (length name)))) in
       let v = ten vs e ∙ r.is in
       let w = ten ws f ∙ r.is in
       record { answers = λ room. rw (v, w); buffers = λ zone buffer. rw (v, w) }

@@ -4,7 +4,7 @@ use mathlib.Core.Path.{◌≡◌, ◌∙◌}
 use mathlib.Core.List.{List}
 use Prim.Native.Nat.{ℕ}
 use Rattle.sphere.specs.declared.point.Point.{Point}
-use Rattle.answer.specs.declared.Answer.{Answer}
+use Rattle.answer.specs.Refusal.{Answer}
 use Rattle.spargolutta.specs.Writing.{bytes_write_of, bytes_written_to}
 
 pub record Wrote (charset : ℕ) (name : List ℕ) (known second : Point) (vertices : List ℕ) (g room : ℕ) (r : Answer) :

@@ -5,7 +5,9 @@
 use Rattle.std.specs.Prelude.{◌≡◌, not, List, ℕ, ◌*◌, ◌<◌, length, take}
 use Rattle.sphere.specs.declared.point.Point.{Point}
 use Rattle.big_endian.specs.Bytes.{AreBytes}
-use Rattle.answer.specs.declared.Answer.TheVariants.{Done}
+use Rattle.std.specs.declared.result.Result.TheVariants.{Ok}
+use Rattle.answer.specs.declared.Reason.TheVariants.{Charset, FieldLength}
+use Rattle.answer.specs.declared.Verdict.TheVariants.{Done}
 use Rattle.answer.specs.Answer.{number_of, place_of}
 use Rattle.answer.specs.Chain.{◌then◌, fails_if}
 use Rattle.polygon.specs.Checks.{list_check}
@@ -24,8 +26,8 @@ abbrev pub WriteGridExactly : Type 0
 WriteGridExactly =
     (charset : ℕ) (name : List ℕ) (known second : Point) (vertices : List ℕ) (g room : ℕ) →
     Mixed (bytes_write_of charset name known second vertices g room)
-    (fails_if 23 (not (is_charset charset))
-    then fails_if 22 (not (is_name_length (length name)))
+    (fails_if Charset (not (is_charset charset))
+    then fails_if FieldLength (not (is_name_length (length name)))
     then list_check (listed_of vertices))
     (not (is_grid_number g))
 
@@ -46,7 +48,7 @@ ReadWritesFromC =
     let s = read_of b in
     let vertices = take (s.vertex_count * 12) (filled_to b row) in
     let g = grid_number_of s.grid in
-    (bytes_write_of s.charset (name_in s b) s.known s.second vertices g (length buffer) ≡ Done (length b))
+    (bytes_write_of s.charset (name_in s b) s.known s.second vertices g (length buffer) ≡ Ok (Done (length b)))
     × (bytes_written_to s.zone s.charset (name_in s b) s.known s.second vertices g buffer ≡ b)
 
 -- After success the front of the buffer, as vertices, is the list that reading tells of.

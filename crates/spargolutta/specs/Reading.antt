@@ -4,9 +4,11 @@
 use Rattle.std.specs.Prelude.{List, ℕ, ◌+◌, ◌*◌, ltb, length, take, drop}
 use Rattle.sphere.specs.declared.point.Point.{Point}
 use Rattle.angles.specs.declared.point.GridNumbers.{GridNumbers}
-use Rattle.answer.specs.declared.Answer.{Answer}
-use Rattle.answer.specs.declared.Answer.TheVariants.{Done}
-use Rattle.answer.specs.declared.Check.{Check}
+use Rattle.std.specs.declared.result.Result.TheVariants.{Ok}
+use Rattle.answer.specs.declared.Reason.TheVariants.{ResultRoom}
+use Rattle.answer.specs.Refusal.{Answer}
+use Rattle.answer.specs.declared.Verdict.TheVariants.{Done}
+use Rattle.answer.specs.Refusal.{Check}
 use Rattle.answer.specs.Answer.{answer_after}
 use Rattle.answer.specs.Buffer.{buffer_after}
 use Rattle.answer.specs.Chain.{◌then◌, fails_here}
@@ -24,10 +26,10 @@ unfoldable pub row_of : List ℕ → List ℕ
 row_of b = take (vertex_count_of b * 12) (drop (vertices_start b + 3) b)
 
 unfoldable pub fill_check : List ℕ → ℕ → Check
-fill_check b room = sheet_check b then fails_here 27 (vertex_count_of b * 12) (ltb room (vertex_count_of b * 12))
+fill_check b room = sheet_check b then fails_here ResultRoom (vertex_count_of b * 12) (ltb room (vertex_count_of b * 12))
 
 abbrev pub fill_of : List ℕ → ℕ → Answer
-fill_of b room = answer_after (fill_check b room) (Done 0)
+fill_of b room = answer_after (fill_check b room) (Ok (Done 0))
 
 unfoldable pub filled_to : List ℕ → List ℕ → List ℕ
 filled_to b buffer = buffer_after (fill_check b (length buffer)) (row_of b) buffer

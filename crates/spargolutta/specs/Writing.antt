@@ -5,7 +5,7 @@ use Rattle.std.specs.Prelude.{◌&&◌, cond, List, [], ℕ, ◌*◌, ◌/◌, �
 use Rattle.sphere.specs.declared.point.Point.{Point}
 use Rattle.sphere.specs.declared.point.Grid.{Grid}
 use Rattle.sphere.specs.declared.point.Grid.TheVariants.{Coarse, Fine}
-use Rattle.answer.specs.declared.Answer.{Answer}
+use Rattle.answer.specs.Refusal.{Answer}
 use Rattle.polygon.specs.GridClaims.{on}
 use Rattle.sphere.specs.Point.{grid_numbered}
 use Rattle.sheet.specs.Write.{write_of, written_to}

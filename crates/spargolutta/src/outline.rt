@@ -5,6 +5,7 @@ ghost use Rattle.std.specs.Prelude.{◌≡◌, ◌++◌, ◌*◌, ◌/◌, ◌�
 ghost use Rattle.basin.specs.Basin.{basin_number_of, basin_place_of, basin_count_of, basin_of};
 ghost use Rattle.spargolutta.specs.Outline.{outline_of, basin_of_bytes};
 
+use answer::Reason;
 use basin::profile::{Basin, basin_count, basin_number, basin_place, check_basin};
 use big_endian::read::decode;
 
@@ -25,10 +26,10 @@ fn basin_of(vertices: &[u8], grid: u32) -> Basin
     ensures { result ≡ basin_of_bytes grid vertices.now }
 {
     if vertices.len() % 12 != 0 {
-        return Basin::Refused(10, 0);
+        return Err(Reason::VertexList.at(0));
     }
     if vertices.len() > 49152 {
-        return Basin::Refused(10, 0);
+        return Err(Reason::VertexList.at(0));
     }
     let mut scratch = [0i32; 12288];
     basin_in(vertices, grid, &mut scratch)

@@ -11,12 +11,13 @@ use Rattle.sphere.specs.declared.point.Grid.{Grid}
 use Rattle.sphere.specs.Point.{limit_of, is_null}
 use Rattle.big_endian.specs.Bytes.{AreBytes, word_bytes, ints_bytes, point_bytes}
 use Rattle.big_endian.proofs.Laws.Kept.{word_at_bound}
-use Rattle.answer.specs.declared.Answer.{Answer}
-use Rattle.answer.specs.declared.Answer.TheVariants.{Done}
-use Rattle.answer.specs.declared.Found.{Found}
-use Rattle.answer.specs.declared.Found.TheVariants.{Nothing, At}
-use Rattle.answer.specs.declared.Check.{Check}
-use Rattle.answer.specs.declared.Check.TheVariants.{Passed, Failed}
+use Rattle.std.specs.declared.option.Option.{Option}
+use Rattle.std.specs.declared.option.Option.TheVariants.{None, Some}
+use Rattle.std.specs.declared.result.Result.TheVariants.{Ok, Err}
+use Rattle.answer.specs.declared.Reason.TheVariants.{VertexList}
+use Rattle.answer.specs.Refusal.{Answer}
+use Rattle.answer.specs.declared.Verdict.TheVariants.{Done}
+use Rattle.answer.specs.Refusal.{Check}
 use Rattle.answer.specs.Answer.{answer_after}
 use Rattle.answer.specs.Chain.{◌then◌, fails_if}
 use Rattle.answer.specs.Search.{first_from}
@@ -44,15 +45,15 @@ use Rattle.zone.specs.Choose.{candidates_of, whole_check, sheet_choose_of}
 use Rattle.zone.specs.Claims.{ChosenReadsBack}
 
 -- ---- a candidate that is chosen passes
-after_done : (c : Check) {a : Answer} {i : ℕ} → answer_after c a ≡ Done i → a ≡ Done i
-after_done Passed e = e
-after_done (Failed number place) e = let z : ◌≡◌ {A = ℕ} 0 1 = cc in absurd (omega arith)
+after_done : (c : Check) {a : Answer} {i : ℕ} → answer_after c a ≡ Ok (Done i) → a ≡ Ok (Done i)
+after_done (Ok unit) e = e
+after_done (Err refusal) e = let z : ◌≡◌ {A = ℕ} 0 1 = cc in absurd (omega arith)
 
-chosen_at : (f : Found) {i : ℕ} → chosen f ≡ Done i → f ≡ At i
-chosen_at Nothing e = let z : ◌≡◌ {A = ℕ} 0 1 = cc in absurd (omega arith)
-chosen_at (At place) {i} e = let same : place ≡ i = cc in ap At same
+chosen_at : (f : Option ℕ) {i : ℕ} → chosen f ≡ Ok (Done i) → f ≡ Some i
+chosen_at None e = let z : ◌≡◌ {A = ℕ} 0 1 = cc in absurd (omega arith)
+chosen_at (Some place) {i} e = let same : place ≡ i = cc in ap Some same
 
-chosen_second : (b candidates : List ℕ) (i : ℕ) → sheet_choose_of b candidates ≡ Done i →
+chosen_second : (b candidates : List ℕ) (i : ℕ) → sheet_choose_of b candidates ≡ Ok (Done i) →
     is_second (limit_of (grid_of b)) (vertices_of b) (known_of b) (vertex_at (candidates_of candidates) i) ≡ true
 unfolding sheet_choose_of choose_of earliest_of
 chosen_second b candidates i e =
@@ -60,7 +61,7 @@ chosen_second b candidates i e =
     let limit = limit_of (grid_of b) in
     let test : ℕ → Bool = λ i. is_second limit (vertices_of b) (known_of b) (vertex_at cs i) in
     let choice = after_done (whole_check candidates then fields_check b) e in
-    let first = after_done (fails_if 10 (not (is_whole cs)) then accept_check limit (vertices_of b) (known_of b)) choice in
+    let first = after_done (fails_if VertexList (not (is_whole cs)) then accept_check limit (vertices_of b) (known_of b)) choice in
     (first_found test 0 (vertices_count cs) i (chosen_at (first_from test 0 (vertices_count cs)) first)).holds
 
 -- ---- a sheet with a second point is the sheet without, and the field behind it
@@ -96,14 +97,14 @@ second_behind zone charset name known g vertices Y =
 -- ---- an accepted sheet without a second point, and a point that passes beside its own
 module _ (b : List ℕ) (a : Accepted b) (none : has_second_point b ≡ false) (are : AreBytes b) (Y : Point)
     (passes : is_second (limit_of (grid_of b)) (vertices_of b) (known_of b) Y ≡ true) where
-  first : accept_check (limit_of (grid_of b)) (vertices_of b) (known_of b) ≡ Passed
+  first : accept_check (limit_of (grid_of b)) (vertices_of b) (known_of b) ≡ Ok tt
   first = optional_first (limit_of (grid_of b)) (vertices_of b) (known_of b) (second_of b) a.points
 
-  beside : second_check (limit_of (grid_of b)) (vertices_of b) (known_of b) Y ≡ Passed
+  beside : second_check (limit_of (grid_of b)) (vertices_of b) (known_of b) Y ≡ Ok tt
   unfolding second_check
   beside = rw passes
 
-  both : optional_check (limit_of (grid_of b)) (vertices_of b) (known_of b) Y ≡ Passed
+  both : optional_check (limit_of (grid_of b)) (vertices_of b) (known_of b) Y ≡ Ok tt
   unfolding pair_check
   both = pair→optional (limit_of (grid_of b)) (vertices_of b) (known_of b) Y (rw first beside)
 
@@ -113,7 +114,7 @@ module _ (b : List ℕ) (a : Accepted b) (none : has_second_point b ≡ false) (
       (second_passed (limit_of (grid_of b)) (vertices_of b) (known_of b) Y beside).accepted
 
   input : input_check (charset_of b) (name_of b) (on (grid_of b) (known_of b)) (grid_of b) (vertices_of b) (on (grid_of b) Y)
-      ≡ Passed
+      ≡ Ok tt
   unfolding input_check grid_check
   input =
       rw (

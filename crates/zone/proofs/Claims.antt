@@ -11,9 +11,11 @@ use lib.ListN.{length}
 use Rattle.sphere.specs.declared.point.Point.{Point}
 use Rattle.sphere.specs.Point.{limit_of, is_off_grid}
 use Rattle.sphere.specs.Direction.{is_antipodal}
-use Rattle.answer.specs.declared.Answer.TheVariants.{Done}
-use Rattle.answer.specs.declared.Check.{Check}
-use Rattle.answer.specs.declared.Check.TheVariants.{Passed, Failed}
+use Rattle.std.specs.declared.result.Result.TheVariants.{Ok, Err}
+use Rattle.answer.specs.declared.Refusal.{Refusal}
+use Rattle.answer.specs.declared.Reason.TheVariants.{QueryAntipodal, QueryOffGrid}
+use Rattle.answer.specs.declared.Verdict.TheVariants.{Done}
+use Rattle.answer.specs.Refusal.{Check, reason_number}
 use Rattle.answer.specs.Answer.{number_of, answer_after}
 use Rattle.answer.specs.Buffer.{buffer_after}
 use Rattle.answer.specs.Chain.{◌then◌}
@@ -52,18 +54,18 @@ sheet_answers_as_list b P e =
 
 -- ---- a feed by a sheet
 -- A feed succeeds only if its checks pass.
-done_passed : (c : Check) → answer_after c (Done 0) ≡ Done 0 → c ≡ Passed
-done_passed Passed e = refl
-done_passed (Failed n p) e = let z : ◌≡◌ {A = ℕ} 0 1 = cc in absurd (omega arith)
+done_passed : (c : Check) → answer_after c (Ok (Done 0)) ≡ Ok (Done 0) → c ≡ Ok tt
+done_passed (Ok unit) e = refl
+done_passed (Err refusal) e = let z : ◌≡◌ {A = ℕ} 0 1 = cc in absurd (omega arith)
 
-module _ (b queries buffer : List ℕ) (done : sheet_feed_of b queries (length buffer) ≡ Done 0) where
-  passed : (size_check queries (length buffer) ≡ Passed) × (sheet_check b ≡ Passed)
+module _ (b queries buffer : List ℕ) (done : sheet_feed_of b queries (length buffer) ≡ Ok (Done 0)) where
+  passed : (size_check queries (length buffer) ≡ Ok tt) × (sheet_check b ≡ Ok tt)
   unfolding sheet_feed_of sheet_feed_check
   passed =
       then_passed (size_check queries (length buffer)) (sheet_check b)
       (done_passed (sheet_feed_check b queries (length buffer)) done)
 
-  whole : sheet_feed_check b queries (length buffer) ≡ Passed
+  whole : sheet_feed_check b queries (length buffer) ≡ Ok tt
   unfolding sheet_feed_of
   whole = done_passed (sheet_feed_check b queries (length buffer)) done
 
@@ -89,18 +91,19 @@ sheet_refused_writes_nothing b queries buffer refused =
     go (sheet_feed_check b queries (length buffer))
     (feed_bytes (limit_of (grid_of b)) (vertices_of b) (known_of b) (second_of b) queries) refused
   where
-    go : (c : Check) (bytes : List ℕ) → (answer_after c (Done 0) ≡ Done 0 → ⊥) → buffer_after c bytes buffer ≡ buffer
-    go Passed bytes refused = absurd (refused refl)
-    go (Failed number place) bytes refused = refl
+    go : (c : Check) (bytes : List ℕ) → (answer_after c (Ok (Done 0)) ≡ Ok (Done 0) → ⊥) → buffer_after c bytes buffer ≡ buffer
+    go (Ok unit) bytes refused = absurd (refused refl)
+    go (Err refusal) bytes refused = refl
 
-sheet_answer_refused : (b : List ℕ) (P : Point) {n p : ℕ} → sheet_check b ≡ Failed n p → number_of (sheet_answer_of b P) ≡ n
+sheet_answer_refused : (b : List ℕ) (P : Point) {refusal : Refusal} → sheet_check b ≡ Err refusal →
+    number_of (sheet_answer_of b P) ≡ reason_number refusal.reason
 unfolding sheet_answer_of
 sheet_answer_refused b P e = rw e
 
 -- ---- with a second point
 module _ (b : List ℕ) (has : has_second_point b ≡ true) where
   -- judging by an accepted sheet is judging with both points
-  paired : sheet_check b ≡ Passed → (P : Point) →
+  paired : sheet_check b ≡ Ok tt → (P : Point) →
       sheet_answer_of b P ≡ pair_answer_of (limit_of (grid_of b)) (vertices_of b) (known_of b) (second_of b) P
   unfolding sheet_answer_of pair_answer_of pair_check optional_check
   paired done P =
@@ -115,10 +118,10 @@ module _ (b : List ℕ) (has : has_second_point b ≡ true) where
       other = sheet_numbered (Other 18) (λ n l m e. omega (arith, l, e)) (λ n l m e. omega (arith, m, e)) b
 
       go : (c : Check) → sheet_check b ≡ c → number_of (sheet_answer_of b P) ≡ 18 → ⊥
-      go Passed c e =
+      go (Ok unit) c e =
           pair_never_eighteen_holds (limit_of (grid_of b)) (vertices_of b) (known_of b) (second_of b) P
           (sym (ap number_of (paired c P)) ∙ e)
-      go (Failed number place) c e = other.each number place c (sym (sheet_answer_refused b P c) ∙ e)
+      go (Err refusal) c e = other.each refusal c (sym (sheet_answer_refused b P c) ∙ e)
 
 pub sheet_never_eighteen : SheetNeverEighteen
 sheet_never_eighteen b has = (
@@ -137,7 +140,7 @@ refusal_number n l m = IsQueryNumber.refusal (omega (arith, l)) (omega (arith, m
 
 module _ (b : List ℕ) (P : Point) where
   -- by an accepted sheet: 17, 18 or a verdict
-  judged_number : sheet_check b ≡ Passed → IsQueryNumber (number_of (sheet_answer_of b P))
+  judged_number : sheet_check b ≡ Ok tt → IsQueryNumber (number_of (sheet_answer_of b P))
   unfolding sheet_answer_of query_check far_check verdict_of
   judged_number done =
       let limit = limit_of (grid_of b) in
@@ -146,8 +149,8 @@ module _ (b : List ℕ) (P : Point) where
       let accepts = judge_accepted limit vs (known_of b) (second_of b) (sheet_optional b done) P in
       rw (done, answer_accepted limit vs X P accepts)
       (after_numbered {Is = IsQueryNumber} (query_check limit P then far_check X P) (verdict_of vs X P)
-      (if_numbered 17 (is_off_grid limit P) (refusal_number 17 (lit< tt) (lit< tt))
-      both if_numbered 18 (is_antipodal X P) (refusal_number 18 (lit< tt) (lit< tt)))
+      (if_numbered QueryOffGrid (is_off_grid limit P) (refusal_number 17 (lit< tt) (lit< tt))
+      both if_numbered QueryAntipodal (is_antipodal X P) (refusal_number 18 (lit< tt) (lit< tt)))
       (verdict_numbered IsQueryNumber (verdict_number 1 (lit≤ tt) (lit≤ tt)) (verdict_number 2 (lit≤ tt) (lit≤ tt))
       (verdict_number 3 (lit≤ tt) (lit≤ tt)) (boundary_of vs P) (crossings_of vs X P) (winding_of vs X P)))
 
@@ -160,8 +163,8 @@ sheet_numbers b P = go (sheet_check b) refl
         (λ n l m. refusal_number n l (omega (arith, m))) b
 
     go : (c : Check) → sheet_check b ≡ c → IsQueryNumber (number_of (sheet_answer_of b P))
-    go Passed c = judged_number b P c
-    go (Failed number place) c = rw (sheet_answer_refused b P c) (refused.each number place c)
+    go (Ok unit) c = judged_number b P c
+    go (Err refusal) c = rw (sheet_answer_refused b P c) (refused.each refusal c)
 
 -- ---- the edges looked at
 pub sheet_looked_at_most : SheetLookedAtMost

@@ -4,8 +4,9 @@
 use Rattle.std.specs.Prelude.{not, List, ℕ, ◌*◌, ◌/◌, ◌%◌, eqb, ℤ, length}
 use Rattle.sphere.specs.Point.{limit_of}
 use Rattle.big_endian.specs.Bytes.{ints_at}
-use Rattle.answer.specs.declared.Answer.{Answer}
-use Rattle.answer.specs.declared.Check.{Check}
+use Rattle.answer.specs.declared.Reason.TheVariants.{VertexList}
+use Rattle.answer.specs.Refusal.{Answer}
+use Rattle.answer.specs.Refusal.{Check}
 use Rattle.answer.specs.Answer.{answer_after}
 use Rattle.answer.specs.Chain.{◌then◌, fails_if}
 use Rattle.polygon.specs.Pair.{choose_of}
@@ -21,7 +22,7 @@ candidates_of candidates = ints_at candidates 0 (candidate_count candidates * 3)
 
 -- Candidates that are not whole are no list of whole threes.
 unfoldable pub whole_check : List ℕ → Check
-whole_check candidates = fails_if 10 (not (eqb (length candidates % 12) 0))
+whole_check candidates = fails_if VertexList (not (eqb (length candidates % 12) 0))
 
 -- 10, then the sheet's fields (20 to 24), then what choosing from the list answers: 11 to 16, 19, or the candidate.
 unfoldable pub sheet_choose_of : List ℕ → List ℕ → Answer

@@ -10,8 +10,10 @@ use Rattle.sphere.specs.Point.{limit_of}
 use Rattle.big_endian.specs.Bytes.{AreBytes, word_at, point_bytes}
 use Rattle.feed.specs.Feed.{query_count}
 use Rattle.feed.specs.Claims.{HoldsResults}
-use Rattle.answer.specs.declared.Answer.TheVariants.{Done, Inside, Outside, Refused}
-use Rattle.answer.specs.declared.Check.TheVariants.{Passed}
+use Rattle.std.specs.declared.result.Result.TheVariants.{Ok, Err}
+use Rattle.answer.specs.declared.Reason.TheVariants.{QueryAntipodal, QueryOffGrid}
+use Rattle.answer.specs.Refusal.{refused_at}
+use Rattle.answer.specs.declared.Verdict.TheVariants.{Done, Inside, Outside}
 use Rattle.answer.specs.Answer.{number_of}
 use Rattle.polygon.specs.Vertices.{vertex_at}
 use Rattle.polygon.specs.Pair.{optional_check, optional_answer_of}
@@ -27,18 +29,18 @@ abbrev pub SheetAnswersAsList : Type 0
 SheetAnswersAsList =
     (b : List ℕ) (P : Point) → number_of (read_of b).answer ≡ 0 →
     let s = read_of b in
-    (optional_check (limit_of s.grid) (vertices_of b) s.known s.second ≡ Passed)
+    (optional_check (limit_of s.grid) (vertices_of b) s.known s.second ≡ Ok tt)
     × (sheet_answer_of b P ≡ optional_answer_of (limit_of s.grid) (vertices_of b) s.known s.second P)
 
 -- After a feed that succeeds the result buffer holds what the single call by the sheet answers to each query.
 abbrev pub SheetFeedEqualsSingle : Type 0
 SheetFeedEqualsSingle =
-    (b queries buffer : List ℕ) → sheet_feed_of b queries (length buffer) ≡ Done 0 →
+    (b queries buffer : List ℕ) → sheet_feed_of b queries (length buffer) ≡ Ok (Done 0) →
     HoldsResults (sheet_answer_of b) queries buffer (sheet_results_after b queries buffer)
 
 abbrev pub SheetRefusedWritesNothing : Type 0
 SheetRefusedWritesNothing =
-    (b queries buffer : List ℕ) → (sheet_feed_of b queries (length buffer) ≡ Done 0 → ⊥) →
+    (b queries buffer : List ℕ) → (sheet_feed_of b queries (length buffer) ≡ Ok (Done 0) → ⊥) →
     sheet_results_after b queries buffer ≡ buffer
 
 -- By a sheet with a second point 18 does not occur, on any bytes: not in a single call, and in no result of a feed.
@@ -46,7 +48,7 @@ abbrev pub SheetNeverEighteen : Type 0
 SheetNeverEighteen =
     (b : List ℕ) → has_second_point b ≡ true →
     ((P : Point) → number_of (sheet_answer_of b P) ≡ 18 → ⊥)
-    × ((queries buffer : List ℕ) → sheet_feed_of b queries (length buffer) ≡ Done 0 → (i : ℕ) → i < query_count queries →
+    × ((queries buffer : List ℕ) → sheet_feed_of b queries (length buffer) ≡ Ok (Done 0) → (i : ℕ) → i < query_count queries →
     word_at (sheet_results_after b queries buffer) (i * 12) ≡ 18 → ⊥)
 
 -- A verdict, or a refusal of the sheet (11 to 16, 19 to 24) or of the query (17, 18).
@@ -67,7 +69,7 @@ SheetLookedAtMost = (b : List ℕ) (P : Point) → sheet_looked_of b P ≤ verte
 abbrev pub ChosenReadsBack : Type 0
 ChosenReadsBack =
     (b candidates : List ℕ) (i : ℕ) → AreBytes b → number_of (read_of b).answer ≡ 0 → has_second_point b ≡ false →
-    sheet_choose_of b candidates ≡ Done i →
+    sheet_choose_of b candidates ≡ Ok (Done i) →
     let chosen = vertex_at (candidates_of candidates) i in
     ReadsAs (zone_of b) (charset_of b) (name_of b) (known_of b) (grid_of b) (vertices_of b) chosen
     (b ++ field_bytes 6 (point_bytes chosen))
@@ -82,7 +84,7 @@ beyond = record { x = pos 1048577; y = pos 1; z = pos 1 }
 
 abbrev pub OctantAnswers : Type 0
 OctantAnswers =
-    (sheet_answer_of (octant_bytes 5) farthest ≡ Refused 18 0)
-    × (sheet_answer_of octant_pair_bytes farthest ≡ Outside 1 (negsuc 0))
-    × (sheet_answer_of (octant_bytes 5) beyond ≡ Refused 17 0)
-    × (sheet_answer_of (octant_bytes 7) beyond ≡ Inside 0 (pos 0))
+    (sheet_answer_of (octant_bytes 5) farthest ≡ Err (refused_at QueryAntipodal 0))
+    × (sheet_answer_of octant_pair_bytes farthest ≡ Ok (Outside 1 (negsuc 0)))
+    × (sheet_answer_of (octant_bytes 5) beyond ≡ Err (refused_at QueryOffGrid 0))
+    × (sheet_answer_of (octant_bytes 7) beyond ≡ Ok (Inside 0 (pos 0)))

@@ -1,37 +1,34 @@
 // A feed judged by a sheet's bytes: document 02's P1. Any bytes.
-// Here, in order: feed_check, feed_answer (nothing is written); feed_in; feed_short, feed_middle, feed_long, feed (by
-// the sheet's size).
+// Here, in order: feed_check, feed_answer (nothing is written); feed_in, feed_sized; feed (by the sheet's size).
 ghost use Rattle.std.specs.Prelude.{◌≡◌, ◌≤◌, length};
-ghost use Rattle.zone.specs.Judge.{sheet_feed_check, sheet_feed_of, sheet_results_after};
+ghost use Rattle.zone.specs.Judge.{sheet_feed_check, sheet_feed_of, sheet_results_after, RoomIn};
 ghost use Rattle.sheet.specs.Open.{room_for, BoxesFor};
 
-use answer::{Answer, Check};
+use answer::{Answer, Check, Verdict};
 use feed::{judge_each, size_check};
 use sheet::open::open_into;
 use sheet::read::sheet_check;
 
 // All that is checked once for a feed, with `room` bytes for its results.
+#[tactic(auto, unfolding(crate::specs::Judge::sheet_feed_check))]
 pub fn feed_check(sheet: &[u8], queries: &[u8], room: usize) -> Check
     ensures { result ≡ sheet_feed_check sheet.now queries.now room }
 {
-    match size_check(queries, room) {
-        Check::Passed => {}
-        Check::Failed(number, place) => return Check::Failed(number, place),
-    }
+    size_check(queries, room)?;
     sheet_check(sheet)
 }
 
 // What `feed` would answer with `room` bytes for the results.
+#[tactic(auto, unfolding(crate::specs::Judge::sheet_feed_of))]
 pub fn feed_answer(sheet: &[u8], queries: &[u8], room: usize) -> Answer
     ensures { result ≡ sheet_feed_of sheet.now queries.now room }
 {
-    match feed_check(sheet, queries, room) {
-        Check::Passed => Answer::Done(0),
-        Check::Failed(number, place) => Answer::Refused(number, place),
-    }
+    feed_check(sheet, queries, room)?;
+    Ok(Verdict::Done(0))
 }
 
 // The vertices are decoded to the front of `scratch`, and their boxes beside them.
+#[tactic(auto, using(sheet::proofs::Laws::Opened::opened, feed::proofs::Laws::Ends::size_passed, feed::proofs::Laws::ResultBuffer::buffer_stored), unfolding(crate::specs::Judge::sheet_feed_of, crate::specs::Judge::sheet_feed_check, crate::specs::Judge::sheet_results_after))]
 fn feed_in(
     sheet: &[u8],
     queries: &[u8],
@@ -44,20 +41,11 @@ fn feed_in(
     ensures results_after { results.new ≡ sheet_results_after sheet.now queries.now
         results.old }
 {
-    match size_check(queries, results.len()) {
-        Check::Passed => {}
-        Check::Failed(number, place) => return Answer::Refused(number, place),
-    }
-    let zone = open_into(sheet, scratch, boxes);
-    let check = zone.check;
-    match check {
-        Check::Passed => {}
-        Check::Failed(number, place) => return Answer::Refused(number, place),
-    }
-    let grid = zone.grid;
+    size_check(queries, results.len())?;
+    let zone = open_into(sheet, scratch, boxes)?;
     let size = zone.count * 3;
     judge_each(
-        grid,
+        zone.grid,
         &scratch[..size],
         boxes,
         zone.known,
@@ -65,39 +53,22 @@ fn feed_in(
         queries,
         results,
     );
-    Answer::Done(0)
+    Ok(Verdict::Done(0))
 }
 
-// The sizes of `judge`.
-fn feed_short(sheet: &[u8], queries: &[u8], results: &mut [u8]) -> Answer
-    requires { length sheet.now ≤ 3072 }
+// Scratch space as in `judge`.
+fn feed_sized<const NUMBERS: usize, const BOXES: usize>(
+    sheet: &[u8],
+    queries: &[u8],
+    results: &mut [u8],
+) -> Answer
+    requires { RoomIn NUMBERS BOXES sheet.now }
     ensures value { result ≡ sheet_feed_of sheet.now queries.now (length results.old) }
     ensures results_after { results.new ≡ sheet_results_after sheet.now queries.now
         results.old }
 {
-    let mut scratch = [0i32; 768];
-    let mut boxes = [0i32; 48];
-    feed_in(sheet, queries, results, &mut scratch, &mut boxes)
-}
-
-fn feed_middle(sheet: &[u8], queries: &[u8], results: &mut [u8]) -> Answer
-    requires { length sheet.now ≤ 16384 }
-    ensures value { result ≡ sheet_feed_of sheet.now queries.now (length results.old) }
-    ensures results_after { results.new ≡ sheet_results_after sheet.now queries.now
-        results.old }
-{
-    let mut scratch = [0i32; 4096];
-    let mut boxes = [0i32; 258];
-    feed_in(sheet, queries, results, &mut scratch, &mut boxes)
-}
-
-fn feed_long(sheet: &[u8], queries: &[u8], results: &mut [u8]) -> Answer
-    ensures value { result ≡ sheet_feed_of sheet.now queries.now (length results.old) }
-    ensures results_after { results.new ≡ sheet_results_after sheet.now queries.now
-        results.old }
-{
-    let mut scratch = [0i32; 12288];
-    let mut boxes = [0i32; 768];
+    let mut scratch = [0i32; NUMBERS];
+    let mut boxes = [0i32; BOXES];
     feed_in(sheet, queries, results, &mut scratch, &mut boxes)
 }
 
@@ -108,10 +79,10 @@ pub fn feed(sheet: &[u8], queries: &[u8], results: &mut [u8]) -> Answer
         results.old }
 {
     if sheet.len() <= 3072 {
-        return feed_short(sheet, queries, results);
+        return feed_sized::<768, 48>(sheet, queries, results);
     }
     if sheet.len() <= 16384 {
-        return feed_middle(sheet, queries, results);
+        return feed_sized::<4096, 258>(sheet, queries, results);
     }
-    feed_long(sheet, queries, results)
+    feed_sized::<12288, 768>(sheet, queries, results)
 }

@@ -20,7 +20,7 @@ const QUERIES_MOST: u64 = 18_000_000_000_000_000_000;
 fn judge_whole(sheet: &[u8], queries: &[u8], size: usize, results: &mut [u8])
     requires { size ≤ length queries.now }
 {
-    feeds::feed(sheet, &queries[..size], results);
+    let _ = feeds::feed(sheet, &queries[..size], results);
 }
 
 // Puts a line for each of the first n results at the start of `out`. Where the lines end.

@@ -7,7 +7,7 @@ use native.Mathlib.Nat.{le_trans}
 use native.Mathlib.Omega.{arith}
 use lib.IntN.{ℤ, pos, nat_abs, ◌+ℤ◌, +ℤ_idl, +ℤ_assoc}
 use Rattle.integers.proofs.Size.{nat_abs-add}
-use Rattle.answer.specs.declared.Found.TheVariants.{Nothing, At}
+use Rattle.std.specs.declared.option.Option.TheVariants.{None, Some}
 use Rattle.answer.specs.Search.{first_from, count_from, sum_from}
 use Rattle.answer.proofs.Laws.Search.{found_none, missed}
 use Rattle.answer.proofs.Laws.First.{Each, each_first, each_rest}
@@ -26,21 +26,21 @@ stay i = omega arith
 
 -- ---- k numbers and m more
 module _ (test : ℕ → Bool) where
-  pub first_pass : (i k m : ℕ) → first_from test i k ≡ Nothing → first_from test i (k + m) ≡ first_from test (i + k) m
+  pub first_pass : (i k m : ℕ) → first_from test i k ≡ None → first_from test i (k + m) ≡ first_from test (i + k) m
   unfolding first_from
   first_pass i zero m e = rw (none m, stay i)
   first_pass i (suc k) m e =
       let miss = missed (test i) i (first_from test (suc i) k) e in
       rw (more k m, miss.0, ← on i k) (first_pass (suc i) k m miss.1)
 
-  pub first_keep : (i k m edge : ℕ) → first_from test i k ≡ At edge → first_from test i (k + m) ≡ At edge
+  pub first_keep : (i k m edge : ℕ) → first_from test i k ≡ Some edge → first_from test i (k + m) ≡ Some edge
   unfolding first_from
   first_keep i zero m edge e = found_none (sym e)
   first_keep i (suc k) m edge e = rw (more k m) (go (test i) e (first_keep (suc i) k m edge))
     where
-      go : (t : Bool) → cond t (At i) (first_from test (suc i) k) ≡ At edge →
-          (first_from test (suc i) k ≡ At edge → first_from test (suc i) (k + m) ≡ At edge) →
-          cond t (At i) (first_from test (suc i) (k + m)) ≡ At edge
+      go : (t : Bool) → cond t (Some i) (first_from test (suc i) k) ≡ Some edge →
+          (first_from test (suc i) k ≡ Some edge → first_from test (suc i) (k + m) ≡ Some edge) →
+          cond t (Some i) (first_from test (suc i) (k + m)) ≡ Some edge
       go true e rest = e
       go false e rest = rest e
 

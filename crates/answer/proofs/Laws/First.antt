@@ -7,7 +7,7 @@ use mathlib.Core.Bool.{Bool, true, false, cond}
 use Prim.Native.Nat.{ℕ, zero, suc, ◌+◌, ◌≤◌, ◌<◌}
 use native.Mathlib.Omega.{arith}
 use native.Mathlib.Nat.{eq-or-lt_of_le}
-use Rattle.answer.specs.declared.Found.TheVariants.{Nothing, At}
+use Rattle.std.specs.declared.option.Option.TheVariants.{None, Some}
 use Rattle.answer.specs.Search.{first_from}
 use Rattle.answer.proofs.Laws.Search.{found_none}
 
@@ -29,11 +29,11 @@ pub record Lowest (test : ℕ → Bool) (i k p : ℕ) : Type 0 where
   pub holds : test p ≡ true
   pub before : (j : ℕ) → i ≤ j → j < p → test j ≡ false
 
-same_place : (i p : ℕ) → At i ≡ At p → i ≡ p
+same_place : (i p : ℕ) → Some i ≡ Some p → i ≡ p
 same_place i p h = cc
 
 module _ (test : ℕ → Bool) where
-  pub none_first : (i k : ℕ) → Each (λ j. test j ≡ false) i k → first_from test i k ≡ Nothing
+  pub none_first : (i k : ℕ) → Each (λ j. test j ≡ false) i k → first_from test i k ≡ None
   unfolding first_from
   none_first i zero all = refl
   none_first i (suc k) all =
@@ -58,12 +58,12 @@ module _ (test : ℕ → Bool) where
     before = λ j h l. ⊎_elim (λ q. subst (λ j. test j ≡ false) q e) (λ more. r.before j more l) (eq-or-lt_of_le h);
   }
 
-  pub first_found : (i k p : ℕ) → first_from test i k ≡ At p → Lowest test i k p
+  pub first_found : (i k p : ℕ) → first_from test i k ≡ Some p → Lowest test i k p
   unfolding first_from
   first_found i zero p h = found_none (sym h)
   first_found i (suc k) p h = go (test i) refl h (first_found (suc i) k p)
     where
-      go : (b : Bool) → test i ≡ b → cond b (At i) (first_from test (suc i) k) ≡ At p →
-          (first_from test (suc i) k ≡ At p → Lowest test (suc i) k p) → Lowest test i (suc k) p
+      go : (b : Bool) → test i ≡ b → cond b (Some i) (first_from test (suc i) k) ≡ Some p →
+          (first_from test (suc i) k ≡ Some p → Lowest test (suc i) k p) → Lowest test i (suc k) p
       go true e h rest = subst (λ p. Lowest test i (suc k) p) (same_place i p h) (lowest_here i k e)
       go false e h rest = lowest_later i k p e (rest h)

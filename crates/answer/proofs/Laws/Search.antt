@@ -8,8 +8,8 @@ use native.Mathlib.Numerals.{add-one}
 use native.Mathlib.Omega.{arith}
 use borrow.Author.Tests.{ltb-true, ltb-false}
 use lib.Dec.{ltb}
-use Rattle.answer.specs.declared.Found.{Found}
-use Rattle.answer.specs.declared.Found.TheVariants.{Nothing, At}
+use Rattle.std.specs.declared.option.Option.{Option}
+use Rattle.std.specs.declared.option.Option.TheVariants.{None, Some}
 use Rattle.answer.specs.Search.{first_from}
 
 -- What is left of n from i on: one more than from i + 1 on, or nothing.
@@ -36,20 +36,20 @@ module _ {test : ℕ → Bool} {n i : ℕ} (h : i < n) where
   unfolding first_from
   searched_step t s = record { rest = sym (rw (one_more i n h, t, add-one i)) ∙ s.rest }
 
-  pub searched_hit : test i ≡ true → Searched test n i → first_from test 0 n ≡ At i
+  pub searched_hit : test i ≡ true → Searched test n i → first_from test 0 n ≡ Some i
   unfolding first_from
   searched_hit t s = sym s.rest ∙ rw (one_more i n h, t)
 
-pub searched_end : {test : ℕ → Bool} {n i : ℕ} → n ≤ i → Searched test n i → first_from test 0 n ≡ Nothing
+pub searched_end : {test : ℕ → Bool} {n i : ℕ} → n ≤ i → Searched test n i → first_from test 0 n ≡ None
 unfolding first_from
 searched_end {test} {n} {i} h s = sym s.rest ∙ rw (none_left i n h)
 
 -- At and Nothing are apart.
-pub found_none : {p : ℕ} {A : Type 0} → At p ≡ Nothing → A
+pub found_none : {p : ℕ} {A : Type 0} → Some p ≡ None → A
 found_none e = let z : ◌≡◌ {A = ℕ} 0 1 = cc in absurd (omega arith)
 
 -- Where nothing is found, the test holds nowhere.
-pub missed : (t : Bool) (i : ℕ) (rest : Found) → cond t (At i) rest ≡ Nothing → (t ≡ false) × (rest ≡ Nothing)
+pub missed : (t : Bool) (i : ℕ) (rest : Option ℕ) → cond t (Some i) rest ≡ None → (t ≡ false) × (rest ≡ None)
 missed true i rest e = found_none e
 missed false i rest e = (refl, e)
 
@@ -60,7 +60,7 @@ at_or_after i j h P p q = go (ltb i j) refl
     go true t = q (ltb-true i j t)
     go false t = let same : j ≡ i = omega (arith, ltb-false i j t) in rw same p
 
-pub first_none : (test : ℕ → Bool) (i k j : ℕ) → first_from test i k ≡ Nothing → i ≤ j → j < i + k → test j ≡ false
+pub first_none : (test : ℕ → Bool) (i k j : ℕ) → first_from test i k ≡ None → i ≤ j → j < i + k → test j ≡ false
 unfolding first_from
 first_none test i zero j e h l = absurd (omega arith)
 first_none test i (suc k) j e h l =

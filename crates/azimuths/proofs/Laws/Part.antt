@@ -1,8 +1,9 @@
 -- How far a direction is into its quarter turn: b of d = a + b. Proved, in order: part_most, part_within, part_full,
--- part_none (the ends); products; part_less (parts that differ), part_across (directions of neighbouring quarters).
-use mathlib.Core.Path.{◌≡◌, refl, ap}
-use Prim.Native.Nat.{ℕ, zero, suc, ◌+◌, ◌*◌, ◌≤◌, ◌<◌}
-use native.Mathlib.Nat.{div-lt_iff_lt-mul, div-le_of_le-mul, div-eq_of_eq-mul_left, zero-div, div-add-mod', mod-lt}
+-- part_none (the ends); two_steps (the quotient in two steps); products; part_less (parts that differ), part_across
+-- (directions of neighbouring quarters).
+use mathlib.Core.Path.{◌≡◌, refl, sym, ap, ◌∙◌}
+use Prim.Native.Nat.{ℕ, zero, suc, ◌+◌, ◌*◌, ◌/◌, ◌%◌, ◌≤◌, ◌<◌}
+use native.Mathlib.Nat.{div-lt_iff_lt-mul, div-le_of_le-mul, div-eq_of_eq-mul_left, zero-div, div-add-mod', mod-lt, mul-add-div_right}
 use native.Mathlib.Nat.{div-mul-le_self, mul-le-mul_right, mul-lt-mul_of_pos_right}
 use native.Mathlib.Omega.{arith}
 use Rattle.azimuths.specs.Azimuth.{part_of}
@@ -19,6 +20,11 @@ module _ (a b d : ℕ) (whole : d ≡ a + b) where
 
   pub part_none : b ≡ 0 → part_of b d ≡ 0
   part_none e = rw e (zero-div d)
+
+pub two_steps : (b d : ℕ) → 0 < d → b * 512 / d * 32 + b * 512 % d * 32 / d ≡ b * 16384 / d
+two_steps b d some =
+    sym (mul-add-div_right some (b * 512 / d * 32) (b * 512 % d * 32))
+    ∙ ap (λ k. k / d) (omega (arith, div-add-mod' (b * 512) d))
 
 -- Of two directions each has a number, and no number of one is missing where the other one's is.
 products : (a b a' b' : ℕ) → (a ≡ 0 → b' ≡ 0 → ⊥) → (b ≡ 0 → a' ≡ 0 → ⊥) → 0 < a + b → 0 < a' + b' →

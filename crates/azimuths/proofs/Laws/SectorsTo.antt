@@ -29,17 +29,15 @@ sector_part part vs X F j =
 pub record SectorsTo (vs : List ℤ) (X : Point) (F : Frame) (l m : List ℕ) (first i : ℕ) : Type 0 where
   pub room : length m ≡ length l
   pub before : i ≤ vertices_count vs
-  pub below : first < 65536
   pub start : i < vertices_count vs → first ≡ azimuth_of F (start_of vs i)
   pub starts : (j : ℕ) → j < i → get_or m (j * 2) 0 ≡ sector_part sector_start vs X F j
   pub widths : (j : ℕ) → j < i → get_or m (j * 2 + 1) 0 ≡ sector_part sector_width vs X F j
 
-pub sectors_start : {vs : List ℤ} {X : Point} {F : Frame} {l : List ℕ} {first : ℕ} → first < 65536 →
+pub sectors_start : {vs : List ℤ} {X : Point} {F : Frame} {l : List ℕ} {first : ℕ} →
     first ≡ azimuth_of F (start_of vs 0) → SectorsTo vs X F l l first 0
-sectors_start h e = record {
+sectors_start e = record {
   room = refl;
   before = omega arith;
-  below = h;
   start = λ k. e;
   starts = λ j k. absurd (omega arith);
   widths = λ j k. absurd (omega arith);
@@ -67,7 +65,7 @@ module _ {vs : List ℤ} {X : Point} {F : Frame} {l m : List ℕ} {first i : ℕ
       get_or-set_other (set m (i * 2) a) (i * 2 + 1) k w 0 (λ e. omega arith)
       ∙ get_or-set_other m (i * 2) k a 0 (λ e. omega arith)
 
-  module _ {second : ℕ} {left : Bool} (e : second ≡ azimuth_of F (end_of vs i)) (below : second < 65536)
+  module _ {second : ℕ} {left : Bool} (e : second ≡ azimuth_of F (end_of vs i))
       (turn : left ≡ is_left X (start_of vs i) (end_of vs i))
       (starts : a ≡ sector_start left first second) (widths : w ≡ sector_width left first second) where
     part_same : (part : Bool → ℕ → ℕ → ℕ) → part left first second ≡ sector_part part vs X F i
@@ -77,7 +75,6 @@ module _ {vs : List ℤ} {X : Point} {F : Frame} {l m : List ℕ} {first i : ℕ
     sectors_step = record {
       room = put_room ∙ s.room;
       before = omega arith;
-      below = below;
       start = λ k. e ∙ ap (azimuth_of F) (next_start vs i (i + 1) refl k);
       starts = λ j k. ⊎_elim
           (λ q. rw q (put_start ∙ starts ∙ part_same sector_start))

@@ -20,7 +20,8 @@ use Rattle.sphere.specs.Direction.{is_parallel, is_same_direction, is_antipodal}
 use Rattle.sphere.proofs.Vectors.{cross_e, dot_e, vecs}
 use Rattle.sphere.proofs.Laws.Orientation.{null→origin, up_to}
 use Rattle.sphere.proofs.Laws.Amid.{some_positive}
-use Rattle.answer.specs.declared.Check.TheVariants.{Passed}
+use Rattle.std.specs.declared.result.Result.TheVariants.{Ok}
+use Rattle.answer.specs.declared.Reason.TheVariants.{AntipodalEnds, SameEnds, VertexNull}
 use Rattle.answer.specs.Search.{first_from}
 use Rattle.answer.specs.Chain.{◌then◌}
 use Rattle.answer.proofs.Laws.Search.{first_none}
@@ -60,15 +61,15 @@ apart_of A B a b s o = go (is_parallel A B) refl s o
     go true e s o = absurd (squares A B (null→origin (cross_of A B) (subst T (sym e) tt)) (some_positive A a)
         (some_positive B b) (level (sign_of (dot_of A B)) refl s o))
 
-module _ (limit : ℕ) (vs : List ℤ) (e : polygon_check limit vs ≡ Passed) where
-  shape : (null_check vs then same_check vs then antipodal_check vs) ≡ Passed
+module _ (limit : ℕ) (vs : List ℤ) (e : polygon_check limit vs ≡ Ok tt) where
+  shape : (null_check vs then same_check vs then antipodal_check vs) ≡ Ok tt
   unfolding polygon_check
   shape = (then_passed (beyond_check limit vs) _ (then_passed (list_check vs) _ e).1).1
 
   some_at : (i : ℕ) → i < vertices_count vs → is_null (vertex_at vs i) ≡ false
   unfolding null_check
   some_at i h = let test : ℕ → Bool = λ i. is_null (vertex_at vs i) in
-      first_none test 0 (vertices_count vs) i (fails_at_passed 12 (first_from test 0 (vertices_count vs))
+      first_none test 0 (vertices_count vs) i (fails_at_passed VertexNull (first_from test 0 (vertices_count vs))
       (then_passed (null_check vs) _ shape).0) (omega arith) (omega arith)
 
   pub edges_apart : (i : ℕ) → i < vertices_count vs → is_parallel (start_of vs i) (end_of vs i) ≡ false
@@ -79,8 +80,8 @@ module _ (limit : ℕ) (vs : List ℤ) (e : polygon_check limit vs ≡ Passed) w
       let far : ℕ → Bool = λ i. is_antipodal (start_of vs i) (end_of vs i) in
       let rest = then_passed (same_check vs) _ (then_passed (null_check vs) _ shape).1 in
       apart_of (start_of vs i) (end_of vs i) (some_at i h) (some_at (next_of n i) (next_below n i h))
-      (first_none same 0 n i (fails_at_passed 13 (first_from same 0 n) rest.0) (omega arith) (omega arith))
-      (first_none far 0 n i (fails_at_passed 14 (first_from far 0 n) rest.1) (omega arith) (omega arith))
+      (first_none same 0 n i (fails_at_passed SameEnds (first_from same 0 n) rest.0) (omega arith) (omega arith))
+      (first_none far 0 n i (fails_at_passed AntipodalEnds (first_from far 0 n) rest.1) (omega arith) (omega arith))
 
   -- ---- edge i and the later edge j
   module _ {i j : ℕ} (low : i < j) (high : j < vertices_count vs) where

@@ -1,30 +1,25 @@
 -- What the search over pairs says of each pair. Defined: First (the pair that was found). Proved, in order: pairs_none,
 -- pairs_found.
-use mathlib.Core.Path.{◌≡◌, refl, sym, subst}
+use mathlib.Core.Path.{◌≡◌, refl, subst}
 use mathlib.Core.Logic.{⊎_elim}
 use mathlib.Core.Bool.{Bool, true, false}
 use Prim.Native.Nat.{ℕ, zero, suc, ◌+◌, ◌≤◌, ◌<◌}
 use native.Mathlib.Omega.{arith}
 use native.Mathlib.Nat.{eq-or-lt_of_le}
-use Rattle.answer.specs.declared.Found.{Found}
-use Rattle.answer.specs.declared.Found.TheVariants.{Nothing, At}
+use Rattle.std.specs.declared.option.Option.{Option}
+use Rattle.std.specs.declared.option.Option.TheVariants.{None, Some}
 use Rattle.answer.specs.Search.{first_from}
 use Rattle.answer.proofs.Laws.First.{Lowest, first_found}
 use Rattle.answer.proofs.Laws.Search.{first_none}
-use Rattle.basin.specs.declared.pairs.FirstPair.{FirstPair}
-use Rattle.basin.specs.declared.pairs.FirstPair.TheVariants.{Apart, Pair}
 use Rattle.basin.specs.Pairs.{row_or, pairs_from}
 
-never : {A : Type 0} {i j : ℕ} → Pair i j ≡ Apart → A
-never e = let z : ◌≡◌ {A = ℕ} 0 1 = cc in absurd (omega arith)
-
 -- A row that found nothing, and the rest.
-row_apart : (i : ℕ) (f : Found) (later : FirstPair) → row_or i f later ≡ Apart → (f ≡ Nothing) × (later ≡ Apart)
-row_apart i Nothing later e = (refl, e)
-row_apart i (At j) later e = never e
+row_apart : (i : ℕ) (f : Option ℕ) (later : Option (ℕ × ℕ)) → row_or i f later ≡ None → (f ≡ None) × (later ≡ None)
+row_apart i None later e = (refl, e)
+row_apart i (Some j) later e = cc
 
 module _ (test : ℕ → ℕ → Bool) where
-  pub pairs_none : (i k : ℕ) → pairs_from test i k ≡ Apart → (h j : ℕ) → i ≤ h → h < j → j < i + k → test h j ≡ false
+  pub pairs_none : (i k : ℕ) → pairs_from test i k ≡ None → (h j : ℕ) → i ≤ h → h < j → j < i + k → test h j ≡ false
   unfolding pairs_from
   pairs_none i zero e h j from low below = absurd (omega arith)
   pairs_none i (suc k) e h j from low below =
@@ -41,11 +36,8 @@ module _ (test : ℕ → ℕ → Bool) where
     pub rows : (h j : ℕ) → i ≤ h → h < a → h < j → j < i + k → test h j ≡ false
     pub row : (j : ℕ) → a < j → j < b → test a j ≡ false
 
-  same_first : {i j a b : ℕ} → Pair i j ≡ Pair a b → i ≡ a
-  same_first e = cc
-
-  same_second : {i j a b : ℕ} → Pair i j ≡ Pair a b → j ≡ b
-  same_second e = cc
+  same_pair : {p q : ℕ × ℕ} → Some p ≡ Some q → p ≡ q
+  same_pair e = cc
 
   here : (i k b : ℕ) → Lowest (test i) (suc i) k b → First i (suc k) i b
   here i k b l = record {
@@ -60,7 +52,7 @@ module _ (test : ℕ → ℕ → Bool) where
       none : (h : ℕ) → i ≤ h → h < i → ⊥
       none h a b = omega arith
 
-  later : (i k a b : ℕ) → first_from (test i) (suc i) k ≡ Nothing → First (suc i) k a b → First i (suc k) a b
+  later : (i k a b : ℕ) → first_from (test i) (suc i) k ≡ None → First (suc i) k a b → First i (suc k) a b
   later i k a b e f = record {
     from = omega (arith, f.from);
     order = f.order;
@@ -72,13 +64,13 @@ module _ (test : ℕ → ℕ → Bool) where
     row = f.row;
   }
 
-  pub pairs_found : (i k a b : ℕ) → pairs_from test i k ≡ Pair a b → First i k a b
+  pub pairs_found : (i k a b : ℕ) → pairs_from test i k ≡ Some (a, b) → First i k a b
   unfolding pairs_from
-  pairs_found i zero a b e = never (sym e)
+  pairs_found i zero a b e = cc
   pairs_found i (suc k) a b e = go (first_from (test i) (suc i) k) refl e (pairs_found (suc i) k a b)
     where
-      go : (f : Found) → first_from (test i) (suc i) k ≡ f → row_or i f (pairs_from test (suc i) k) ≡ Pair a b →
-          (pairs_from test (suc i) k ≡ Pair a b → First (suc i) k a b) → First i (suc k) a b
-      go (At j) p e rest = subst (λ b. First i (suc k) a b) (same_second e)
-          (subst (λ a. First i (suc k) a j) (same_first e) (here i k j (first_found (test i) (suc i) k j p)))
-      go Nothing p e rest = later i k a b p (rest e)
+      go : (f : Option ℕ) → first_from (test i) (suc i) k ≡ f → row_or i f (pairs_from test (suc i) k) ≡ Some (a, b) →
+          (pairs_from test (suc i) k ≡ Some (a, b) → First (suc i) k a b) → First i (suc k) a b
+      go (Some j) p e rest =
+          subst (λ q. First i (suc k) q.0 q.1) (same_pair e) (here i k j (first_found (test i) (suc i) k j p))
+      go None p e rest = later i k a b p (rest e)

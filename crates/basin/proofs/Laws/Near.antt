@@ -16,7 +16,6 @@ use Rattle.sphere.specs.Orientation.{orientation_of}
 use Rattle.sphere.specs.Crossing.{is_beside}
 use Rattle.sphere.specs.Plane.{plane_of}
 use Rattle.sphere.proofs.Laws.Plane.{Made, plane_made, made_turn}
-use Rattle.answer.specs.declared.Check.TheVariants.{Passed}
 use Rattle.polygon.specs.Vertices.{vertices_count, vertex_at, start_of, end_of}
 use Rattle.polygon.specs.Accepted.{Gridded}
 use Rattle.polygon.specs.Checks.{polygon_check}
@@ -26,6 +25,7 @@ use Rattle.basin.specs.Pairs.{is_offending, NearFrom}
 use Rattle.basin.proofs.Laws.Beyond.{level_self}
 use Rattle.basin.proofs.Laws.Offending.{beside_passed}
 use Rattle.basin.proofs.Laws.Paired.{Row, row_pass}
+use Rattle.std.specs.declared.result.Result.TheVariants.{Ok}
 
 pub row_made : (g : Grid) (vs : List ℤ) → Gridded (limit_of g) vs → (i : ℕ) → i + 1 < vertices_count vs →
     {a b : Point} {p : Plane} → a ≡ vertex_at vs i → b ≡ vertex_at vs (i + 1) → p ≡ plane_of g a b →
@@ -42,7 +42,7 @@ row_first vs i low =
     ∙ ap (orientation_of (start_of vs i) (end_of vs i)) (next_start vs i (i + 1) refl low))
 
 -- ---- where a scan stopped
-module _ (g : Grid) (vs : List ℤ) (e : polygon_check (limit_of g) vs ≡ Passed) (i : ℕ) {j last : ℕ} {p : Plane} {near : Near}
+module _ (g : Grid) (vs : List ℤ) (e : polygon_check (limit_of g) vs ≡ Ok tt) (i : ℕ) {j last : ℕ} {p : Plane} {near : Near}
     (m : Made g (start_of vs i) (end_of vs i) p) (f : NearFrom vs p.normal j last near) where
   pub near_start : sign_of near.start ≡ sign_of (orientation_of (start_of vs i) (end_of vs i) (start_of vs near.edge))
   near_start = f.start ∙ ap sign_of (made_turn m (start_of vs near.edge))

@@ -22,7 +22,8 @@ use Rattle.sphere.specs.Direction.{is_same_direction}
 use Rattle.sphere.specs.OnEdge.{OnEdge}
 use Rattle.sphere.proofs.Laws.Aligned.{aligned_refl, aligned_sign, same→aligned}
 use Rattle.sphere.proofs.Laws.Amid.{Inner, level_sum, on_edge_cases}
-use Rattle.answer.specs.declared.Check.TheVariants.{Passed}
+use Rattle.std.specs.declared.result.Result.TheVariants.{Ok}
+use Rattle.answer.specs.declared.Reason.TheVariants.{ManyVertices}
 use Rattle.answer.specs.Chain.{fails_if}
 use Rattle.answer.proofs.Laws.Chain.{then_passed}
 use Rattle.polygon.specs.Vertices.{vertices_count, start_of, end_of}
@@ -36,12 +37,12 @@ use Rattle.basin.specs.Claims.{Offends}
 use Rattle.basin.proofs.Laws.Apart.{next_is, last_is, next_decided, last_decided, pair_decided}
 
 -- What the profile's checks say of the polygon.
-pub basin_polygon : (g : ℕ) (vs : List ℤ) → basin_check g vs ≡ Passed →
-    polygon_check (limit_of (grid_numbered g)) vs ≡ Passed
+pub basin_polygon : (g : ℕ) (vs : List ℤ) → basin_check g vs ≡ Ok tt →
+    polygon_check (limit_of (grid_numbered g)) vs ≡ Ok tt
 unfolding basin_check
 basin_polygon g vs e =
     let rest = (then_passed (grid_check vs (not (is_grid_number g))) _ e).1 in
-    (then_passed (polygon_check (limit_of (grid_numbered g)) vs) (fails_if 34 (ltb 512 (vertices_count vs))) rest).0
+    (then_passed (polygon_check (limit_of (grid_numbered g)) vs) (fails_if ManyVertices (ltb 512 (vertices_count vs))) rest).0
 
 -- ---- ends strictly on one side
 beside_end : (s : Sign) → is_beside s nought ≡ false
@@ -76,7 +77,7 @@ module _ (A B C D : Point) where
       ∙ beside_end (sign_of (orientation_of A B C)))
       (amid_apart s.first)
 
-module _ (limit : ℕ) (vs : List ℤ) (e : polygon_check limit vs ≡ Passed) {i j : ℕ} (low : i < j)
+module _ (limit : ℕ) (vs : List ℤ) (e : polygon_check limit vs ≡ Ok tt) {i j : ℕ} (low : i < j)
     (high : j < vertices_count vs) where
   -- ---- the test, by whether they are neighbours
   abbrev tested : Bool → Bool → Bool → Bool

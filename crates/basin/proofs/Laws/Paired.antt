@@ -6,12 +6,11 @@ use mathlib.Core.Bool.{Bool, true, false}
 use Prim.Native.Nat.{ℕ, suc, ◌+◌, ◌-◌, ◌≤◌, ◌<◌}
 use native.Mathlib.Numerals.{add-one}
 use native.Mathlib.Omega.{arith}
-use Rattle.answer.specs.declared.Found.TheVariants.{Nothing, At}
+use Rattle.std.specs.declared.option.Option.TheVariants.{None, Some}
 use Rattle.answer.specs.Search.{first_from}
 use Rattle.answer.proofs.Laws.Search.{one_more, none_left, all_left}
 use Rattle.answer.proofs.Laws.First.{Each, none_first}
 use Rattle.answer.proofs.Laws.Blocks.{first_pass}
-use Rattle.basin.specs.declared.pairs.FirstPair.TheVariants.{Apart, Pair}
 use Rattle.basin.specs.Pairs.{row_or, pairs_from}
 
 pub record Paired (test : ℕ → ℕ → Bool) (n i : ℕ) : Type 0 where
@@ -24,7 +23,7 @@ pub paired_start : (test : ℕ → ℕ → Bool) (n : ℕ) → Paired test n 0
 paired_start test n = record { rest = rw (all_left n) }
 
 -- The last row is empty: no edge comes after the last one.
-pub paired_end : {test : ℕ → ℕ → Bool} {n i : ℕ} → i + 1 ≡ n → Paired test n i → pairs_from test 0 n ≡ Apart
+pub paired_end : {test : ℕ → ℕ → Bool} {n i : ℕ} → i + 1 ≡ n → Paired test n i → pairs_from test 0 n ≡ None
 unfolding pairs_from first_from
 paired_end {n = n} {i} e p = let one : n - i ≡ 1 = omega arith in sym p.rest ∙ rw one
 
@@ -53,11 +52,11 @@ module _ {test : ℕ → ℕ → Bool} {n i j : ℕ} where
             ∙ r.rest;
       }
 
-  pub row_hit : i < n → j < n → test i j ≡ true → Row test n i j → Paired test n i → pairs_from test 0 n ≡ Pair i j
+  pub row_hit : i < n → j < n → test i j ≡ true → Row test n i j → Paired test n i → pairs_from test 0 n ≡ Some (i, j)
   unfolding first_from
   row_hit low h t r p = sym (opened low p) ∙ ap (λ f. row_or i f (pairs_from test (suc i) (n - suc i))) found
     where
-      found : first_from (test i) (suc i) (n - suc i) ≡ At j
+      found : first_from (test i) (suc i) (n - suc i) ≡ Some j
       found = sym r.rest ∙ rw (one_more j n h, t)
 
   pub row_end : i < n → n ≤ j → Row test n i j → Paired test n i → Paired test n (i + 1)
@@ -66,5 +65,5 @@ module _ {test : ℕ → ℕ → Bool} {n i j : ℕ} where
     rest = rw (add-one i) (sym (ap (λ f. row_or i f (pairs_from test (suc i) (n - suc i))) none) ∙ opened low p);
   }
     where
-      none : first_from (test i) (suc i) (n - suc i) ≡ Nothing
+      none : first_from (test i) (suc i) (n - suc i) ≡ None
       none = sym r.rest ∙ rw (none_left j n h)

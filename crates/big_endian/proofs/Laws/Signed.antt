@@ -1,35 +1,17 @@
 -- Signed numbers where the code crosses zero.
--- Proved, in order: below_zero, above_zero, is_pos, is_neg, widens, narrows, held.
-use mathlib.Core.Path.{◌≡◌, refl, sym, ◌∙◌}
-use mathlib.Core.Bool.{true, false, true≢false, false≢true}
-use Prim.Native.Nat.{ℕ, zero, suc, ◌-◌, ◌^◌, ◌<◌}
-use native.Mathlib.Nat.{zero-add}
+-- Proved, in order: widens, narrows, held; signed_word, word_signed (the library's casts are two's complement).
+use mathlib.Core.Path.{◌≡◌, refl, ap, ◌∙◌}
+use mathlib.Core.Bool.{Bool, true, false, cond}
+use Prim.Native.Nat.{ℕ, suc, ◌-◌, ◌^◌, ◌<◌}
 use native.Mathlib.Omega.{arith}
-use borrow.Author.Tests.{le-ltb}
-use lib.Dec.{leb-zero}
-use lib.IntN.{ℤ, pos, negsuc, ◌-ℤ◌}
-use lib.Signed.{le_z, mag}
+use lib.Dec.{ltb}
+use lib.IntN.{ℤ, pos, negsuc}
+use lib.Signed.{mag}
 use mir.Syntax.{Width, w32, w64}
-use mir.Val.{SFits, to_z, of_z, hbits}
+use mir.Val.{SFits, to_z, of_z, sel, hbits}
 use mir.ValLaws.{to_z-of_z}
 use Rattle.sphere.specs.Point.{Fits}
-
--- -1 - k is the number below zero that k counts, and back.
-pub below_zero : (k : ℕ) → negsuc 0 -ℤ pos k ≡ negsuc k
-below_zero zero = refl
-below_zero (suc k) = rw zero-add
-
-pub above_zero : (k : ℕ) → negsuc 0 -ℤ negsuc k ≡ pos k
-above_zero k = let e : suc k - 1 ≡ k = omega arith in rw (le-ltb (suc k) 1 (omega arith), e)
-
--- A test against zero tells the constructor.
-pub is_pos : (z : ℤ) → le_z (pos 0) z ≡ true → z ≡ pos (mag z)
-is_pos (pos n) e = refl
-is_pos (negsuc n) e = absurd (false≢true e)
-
-pub is_neg : (z : ℤ) → le_z (pos 0) z ≡ false → z ≡ negsuc (mag z)
-is_neg (pos n) e = absurd (true≢false (sym (leb-zero n) ∙ e))
-is_neg (negsuc n) e = refl
+use Rattle.big_endian.specs.Bytes.{signed, word_of}
 
 -- What fits 32 bits fits 64, and what is below 2^31 in size fits 32.
 pub widens : {z : ℤ} → SFits w32 z → SFits w64 z
@@ -42,3 +24,20 @@ narrows (negsuc n) f = let h = f.within in record { sfits = omega arith }
 -- A signed local holds bits. What is read back from them is what a call ensures of its result.
 pub held : (w : Width) {z y : ℤ} → mag z < 2 ^ hbits w → z ≡ y → to_z w (of_z w z) ≡ y
 held w {z} h e = to_z-of_z w z (record { sfits = h }) ∙ e
+
+-- The library's casts are two's complement, as `signed` and `word_of` have it.
+pub signed_word : (n : ℕ) → to_z w32 n ≡ signed n
+unfolding signed
+signed_word n = go (ltb n 2147483648)
+  where
+    same : 2 ^ 32 - suc n ≡ 4294967295 - n
+    same = omega arith
+
+    go : (b : Bool) → sel b (pos n) (negsuc (2 ^ 32 - suc n)) ≡ cond b (pos n) (negsuc (4294967295 - n))
+    go true = refl
+    go false = ap negsuc same
+
+pub word_signed : (z : ℤ) → of_z w32 z ≡ word_of z
+unfolding word_of
+word_signed (pos n) = refl
+word_signed (negsuc n) = omega arith

@@ -8,7 +8,7 @@ use Prim.Native.Nat.{ℕ, ◌+◌, ◌*◌, ◌^◌, ◌<◌}
 use native.Mathlib.Omega.{arith}
 use native.Mathlib.Nat.{add-zero, zero-add, zero-mul, one-mul, mul-one, add-mul, mul-add, pow-suc}
 use native.Mathlib.Numerals.{add-one}
-use Rattle.answer.specs.declared.Answer.{Answer}
+use Rattle.answer.specs.Refusal.{Answer}
 use Rattle.book.specs.declared.sets.Sets.{Sets}
 use Rattle.book.specs.declared.sets.Which.{Which}
 use Rattle.book.specs.Split.{Split, Whole, Broken, joined}
@@ -57,7 +57,7 @@ stacked_sets i low high = record {
 
 abbrev pub which_on : (List ℕ → Answer) → ℕ → Sets → Split → Which
 which_on answer i low (Whole parts) = found_of (stacked_sets i low (sets_of (map answer parts)))
-which_on answer i low (Broken number place) = broken_at number place
+which_on answer i low (Broken refusal) = broken_at refusal
 
 module _ (answer : List ℕ → Answer) where
   stack_none : (high : ℕ) → stacked 0 0 high ≡ high
@@ -69,7 +69,7 @@ module _ (answer : List ℕ → Answer) where
     boundary = sym (stack_none (mask_of is_boundary (map answer parts))) j;
     refused = sym (stack_none (mask_of is_refused (map answer parts))) j;
   })
-  on_start (Broken number place) = refl
+  on_start (Broken refusal) = refl
 
   pub on_sheet :
       (i : ℕ) (low : Sets) (part : List ℕ) (s : Split) →
@@ -80,7 +80,7 @@ module _ (answer : List ℕ → Answer) where
     boundary = sym (stack_bit (is_boundary (answer part)) i low.boundary (mask_of is_boundary (map answer parts))) j;
     refused = sym (stack_bit (is_refused (answer part)) i low.refused (mask_of is_refused (map answer parts))) j;
   })
-  on_sheet i low part (Broken number place) = refl
+  on_sheet i low part (Broken refusal) = refl
 
   pub on_end : (i : ℕ) (low : Sets) → which_on answer i low (Whole []) ≡ found_of low
   unfolding mask_of

@@ -6,10 +6,13 @@ use Prim.Native.Nat.{ℕ, suc, ◌+◌, ◌-◌, ◌≤◌, ◌<◌}
 use native.Mathlib.Omega.{arith}
 use lib.Dec.{lit<}
 use lib.ListN.{length}
+use Rattle.std.specs.declared.option.Option.TheVariants.{None, Some}
 use Rattle.sphere.specs.declared.point.Point.{Point}
-use Rattle.answer.specs.declared.Answer.{Answer}
+use Rattle.std.specs.declared.result.Result.TheVariants.{Err, Ok}
+use Rattle.answer.specs.declared.Refusal.{Refusal}
+use Rattle.answer.specs.declared.Reason.TheVariants.{ManySheets}
+use Rattle.answer.specs.Refusal.{Answer, refused_at}
 use Rattle.book.specs.declared.sets.Sets.{Sets}
-use Rattle.book.specs.declared.step.Step.TheVariants.{Sheet, Refused, End}
 use Rattle.book.specs.Step.{step_at}
 use Rattle.book.specs.Split.{Split, part_of, split_from, split_of}
 use Rattle.book.specs.Sets.{no_zones, found_of, broken_at, Below, added_to}
@@ -45,7 +48,7 @@ module _ (book : List ℕ) (grid : ℕ) (query : Point) where
     one_left h = omega arith
 
     pub walked_sheet :
-        {start size : ℕ} {a : Answer} {next : Sets} → i < 64 → step_at book at ≡ Sheet start size →
+        {start size : ℕ} {a : Answer} {next : Sets} → i < 64 → step_at book at ≡ Ok (Some (start, size)) →
         a ≡ answer (part_of book at size) → next ≡ added_to zones i a → Walked (at + size) next (i + 1)
     walked_sheet {start} {size} h e f g =
         let s : Walked (at + size) (added_to zones i (answer (part_of book at size))) (i + 1) = record {
@@ -57,13 +60,13 @@ module _ (book : List ℕ) (grid : ℕ) (query : Point) where
         } in
         rw (g, f) s
 
-    pub walked_refused : {n p : ℕ} → i < 64 → step_at book at ≡ Refused n p → which_of book grid query ≡ broken_at n p
+    pub walked_refused : {refusal : Refusal} → i < 64 → step_at book at ≡ Err refusal → which_of book grid query ≡ broken_at refusal
     walked_refused h e = then-split _ (one_left h) (split_refused (64 - (i + 1)) book at e)
 
-    pub walked_end : i < 64 → step_at book at ≡ End → which_of book grid query ≡ found_of zones
+    pub walked_end : i < 64 → step_at book at ≡ Ok None → which_of book grid query ≡ found_of zones
     walked_end h e = then-split _ (one_left h) (split_end (64 - (i + 1)) book at e) ∙ on_end answer i zones
 
-    pub walked_left : 64 ≤ i → at < length book → which_of book grid query ≡ broken_at 36 at
+    pub walked_left : 64 ≤ i → at < length book → which_of book grid query ≡ broken_at (refused_at ManySheets at)
     walked_left h l = then-split 0 (omega arith) (split_left book at l)
 
     pub walked_done : 64 ≤ i → length book ≤ at → which_of book grid query ≡ found_of zones

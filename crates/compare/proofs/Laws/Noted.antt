@@ -1,14 +1,15 @@
--- The fields that differ, noted one by one. Proved, in order: differing_bound, noted_count (there is room), noted_more
--- (one number more), differing_snoc, noted_step (one field more).
+-- The fields that differ, noted one by one. Proved, in order: differing_bound (there is room), noted_more
+-- (one number more), differing_snoc, noted_step (one field more); pushed_count.
 use mathlib.Core.Path.{◌≡◌, refl, sym, ap, ◌∙◌}
 use mathlib.Core.Bool.{Bool, true, false, cond}
 use mathlib.Core.List.{List, [], ◌∷◌, ◌++◌, append_assoc, append-nil}
-use Prim.Native.Nat.{ℕ, suc, ◌-◌, ◌≤◌, ◌<◌}
+use Prim.Native.Nat.{ℕ, suc, ◌+◌, ◌-◌, ◌≤◌, ◌<◌}
 use native.Mathlib.Omega.{arith}
 use lib.ListN.{length, set, replicate, length-append}
 use lib.Seq.{set_at}
+use Rattle.compare.specs.declared.differences.Field.{Field}
 use Rattle.compare.specs.declared.differences.Differences.{Differences}
-use Rattle.compare.specs.Differences.{Field, field_number, differing, filled, noted, pushed}
+use Rattle.compare.specs.Differences.{field_number, differing, filled, noted, pushed}
 
 module _ (test : Field → Bool) where
   pub differing_bound : (fs : List Field) → length (differing test fs) ≤ length fs
@@ -20,9 +21,6 @@ module _ (test : Field → Bool) where
           length (cond t (field_number f ∷ differing test fs) (differing test fs)) ≤ suc (length fs)
       go true h = omega arith
       go false h = omega arith
-
-  pub noted_count : (fs : List Field) {d : Differences} → d ≡ noted (differing test fs) → d.count ≤ length fs
-  noted_count fs e = let n = ap (λ d. d.count) e in omega (arith, differing_bound fs)
 
   -- The field's number, if it differs.
   abbrev told : Field → List ℕ
@@ -72,3 +70,9 @@ noted_step test fs f room before same e =
     e ∙ (λ i. pushed (before i) (field_number f) (same i))
     ∙ noted_more (differing test fs) (field_number f) (omega (arith, differing_bound test fs)) (test f)
     ∙ ap noted (sym (differing_snoc test fs f))
+
+-- One field more is one number more at most.
+pub pushed_count : (d : Differences) (k : ℕ) (other : Bool) → (pushed d k other).count ≤ d.count + 1
+unfolding pushed
+pushed_count d k true = omega arith
+pushed_count d k false = omega arith

@@ -1,6 +1,5 @@
--- A ring in bytes, and round it. Proved, in order: ring_count, ring_point (vertex i stands at byte 12i), ring_part (a
--- sheet's ring is a part of its bytes); round_below, met_below (a vertex that is to be met is one of the ring);
--- least_both, least_one (the lesser of two numbers).
+-- A ring in bytes, and round it. Proved, in order: ring_count, ring_point (vertex i stands at byte 12i), sound_within,
+-- ring_part (a sheet's ring is a part of its bytes); round_below, met_below (a vertex that is to be met is one of the ring).
 use mathlib.Core.Path.{◌≡◌, refl, ap, ap₂, ◌∙◌}
 use mathlib.Core.Bool.{Bool, true, false, cond}
 use mathlib.Core.List.{List, ◌∷◌}
@@ -15,7 +14,9 @@ use Rattle.big_endian.specs.Bytes.{byte_at, word_at, signed, int_at, ints_at, po
 use Rattle.big_endian.proofs.Laws.Rows.{ints_at-length}
 use Rattle.polygon.specs.Vertices.{vertices_count, vertex_at}
 use Rattle.sheet.proofs.Laws.Points.{row_point}
-use Rattle.compare.specs.Ring.{round_of, met_at, least_of, ring_size, ring_of}
+use Rattle.sphere.specs.declared.point.Point.{Point}
+use Rattle.sphere.specs.Point.{fine, Within}
+use Rattle.compare.specs.Ring.{round_of, met_at, ring_size, ring_of, Sound}
 
 pub ring_count : (r : List ℕ) → vertices_count (ring_of r) ≡ ring_size r
 ring_count r = omega (arith, ints_at-length r 0 (ring_size r * 3))
@@ -24,6 +25,9 @@ pub ring_point : (r : List ℕ) (i : ℕ) → i < ring_size r → vertex_at (rin
 ring_point r i h =
     let front : 0 + i * 12 ≡ i * 12 = omega arith in
     row_point r 0 (ring_size r) i h ∙ ap (point_at r) front
+
+pub sound_within : {r : List ℕ} {i : ℕ} {p : Point} → p ≡ vertex_at (ring_of r) i → Sound r → i < ring_size r → Within fine p
+sound_within {r} {i} e s h = rw e (s.gridded.each i (omega (arith, ring_count r)))
 
 -- ---- a part of a list of bytes
 module _ (b : List ℕ) (at n : ℕ) where
@@ -72,18 +76,3 @@ pub met_below : (back : Bool) (n k i : ℕ) → k < n → i < n → met_at back 
 unfolding met_at
 met_below true n k i h l = round_below n (k + (n - i)) (omega arith) (omega arith)
 met_below false n k i h l = round_below n (k + i) (omega arith) (omega arith)
-
--- ---- the lesser of two numbers
-pub least_both : (m n : ℕ) → (least_of m n ≤ m) × (least_of m n ≤ n)
-least_both m n = go (ltb m n) refl
-  where
-    go : (b : Bool) → ltb m n ≡ b → (cond b m n ≤ m) × (cond b m n ≤ n)
-    go true e = let l = ltb-true m n e in (omega arith, omega arith)
-    go false e = let l = ltb-false m n e in (omega arith, omega arith)
-
-pub least_one : (m n : ℕ) → least_of m n < m → least_of m n < n → ⊥
-least_one m n = go (ltb m n)
-  where
-    go : (b : Bool) → cond b m n < m → cond b m n < n → ⊥
-    go true h l = omega arith
-    go false h l = omega arith

@@ -13,7 +13,6 @@ use Rattle.sphere.specs.Point.{limit_of, Within}
 use Rattle.sphere.specs.Orientation.{orientation_of}
 use Rattle.sphere.specs.OnEdge.{is_on_edge}
 use Rattle.sphere.specs.Plane.{plane_of}
-use Rattle.answer.specs.declared.Check.TheVariants.{Passed}
 use Rattle.polygon.specs.Checks.{accept_check}
 use Rattle.polygon.specs.Vertices.{vertices_count, start_of, end_of}
 use Rattle.polygon.proofs.Laws.Checks.{accept_passed}
@@ -28,6 +27,7 @@ use Rattle.azimuths.specs.Sectors.{Idle, is_missed_at, MissedIn, is_inside, turn
 use Rattle.cones.specs.Cones.{Covers, none, pass, keep, Complete}
 use Rattle.cones.specs.Lists.{Gathered}
 use Rattle.cones.proofs.Laws.Covers.{kept_covers}
+use Rattle.std.specs.declared.result.Result.TheVariants.{Ok}
 
 covers_below : {I : ℕ → Type 0} {l : List ℕ} {a n i b : ℕ} → i ≤ n → Covers I l a i b →
     Covers (λ j. (j < n) × I j) l a i b
@@ -48,7 +48,7 @@ near_complete {vs} {X} {P} {sectors} {k} telling all g = record {
 
 -- ---- the arc, made again
 pub arc_accepted : {vs : List ℤ} (g : Grid) (X P : Point) (by-boxes : Bool) {arc : Arc} →
-    accept_check (limit_of g) vs X ≡ Passed → Within (limit_of g) P → arc ≡ arc_of g X P by-boxes → AcceptedArc vs arc
+    accept_check (limit_of g) vs X ≡ Ok tt → Within (limit_of g) P → arc ≡ arc_of g X P by-boxes → AcceptedArc vs arc
 unfolding arc_of plane_of
 arc_accepted {vs} g X P by-boxes accepted query e = subst (AcceptedArc vs) (sym e) (record {
   accepted = accepted;

@@ -1,6 +1,6 @@
 -- Lists that are complete. Defined: AtEntry, Added. Proved, in order: covers_least, covers_map, covers_same, covers_at
 -- (an entry), entries; tallied_of, walk_start, walk_step, walk_held (a walk over a complete list says what a walk over
--- all edges says), walk_add (the same of a loop's locals); kept_least, kept_same, kept_whole, kept_covers (what is kept
+-- all edges says), sum_kept, walk_add (the same of a loop's locals); kept_least, kept_same, kept_whole, kept_covers (what is kept
 -- of a complete list is complete).
 use mathlib.Core.Path.{◌≡◌, refl, sym, ◌∙◌, ap, subst}
 use mathlib.Core.Bool.{Bool, true}
@@ -10,18 +10,19 @@ use Prim.Native.Nat.{ℕ, zero, suc, ◌+◌, ◌-◌, ◌≤◌, ◌<◌}
 use native.Mathlib.Nat.{eq-or-lt_of_le}
 use native.Mathlib.Numerals.{add-one}
 use native.Mathlib.Omega.{arith}
-use lib.IntN.{ℤ, pos, ◌+ℤ◌}
+use lib.IntN.{ℤ, pos, nat_abs, ◌+ℤ◌}
 use lib.ListN.{get_or}
 use mir.Syntax.{w32}
 use mir.Val.{SFits, to_z, of_z}
 use mir.ValLaws.{to_z-of_z}
+use Rattle.integers.proofs.Size.{known, fits}
 use Rattle.sphere.specs.declared.point.Point.{Point}
 use Rattle.answer.specs.Search.{first_from, count_from, sum_from}
 use Rattle.polygon.specs.Verdict.{is_on_border, is_crossed, way_of}
 use Rattle.search.specs.declared.walk.Tally.TheVariants.{Held, Crossed}
 use Rattle.search.specs.Walk.{tally_from}
 use Rattle.search.proofs.Laws.Tally.{Tallied, tallied_start, tallied_block, tallied_none, tallied_held, tallied_end}
-use Rattle.search.proofs.Laws.Tally.{crossed_parts, tally_all, test_way, tallied_few, sum_fits}
+use Rattle.search.proofs.Laws.Tally.{crossed_parts, tally_all, test_way, tallied_few, tallied_small, sum_fits}
 use Rattle.azimuths.specs.Sectors.{Idle}
 use Rattle.cones.specs.Cones.{Covers, none, pass, keep, Walked}
 use Rattle.cones.specs.Lists.{Entries, Kept, begin, drop, copy}
@@ -117,26 +118,34 @@ module _ {vs : List ℤ} {X P : Point} where
         tally_all vs X P n
         (tallied_held 1 (omega arith) (tallied_of (w.tally _ r.before)) n (omega (arith, r.below)) one)
 
+-- A sum that was tallied of few edges fits.
+pub sum_kept : (vs : List ℤ) (X P : Point) {i c : ℕ} {s : ℤ} → i ≤ 4096 → tally_from vs X P 0 i ≡ Crossed c s →
+    to_z w32 (of_z w32 s) ≡ s
+sum_kept vs X P {s = s} few e =
+    let small : nat_abs s ≤ 4096 = omega (arith, tallied_small (tallied_of e), few) in
+    to_z-of_z w32 s (fits (known {z = s} small) (omega arith))
+
 -- Entry e is looked at, and its edge says `way`: the sums fit, and the walk goes on.
 pub record Added (vs : List ℤ) (X P : Point) (l : List ℕ) (e crossed : ℕ) (sum : ℤ) : Type 0 where
   pub few : crossed ≤ 4096
   pub fits : SFits w32 sum
   pub walked : Walked vs X P l (e + 1) crossed (to_z w32 (of_z w32 sum))
 
-pub walk_add : {vs : List ℤ} {X P : Point} {l : List ℕ} {n e crossed d : ℕ} (sum : ℕ) (way : ℤ) → n ≤ 4096 →
-    SFits w32 way → AtEntry (Idle vs X P) l 0 n e → Walked vs X P l e crossed (to_z w32 sum) →
-    tally_from vs X P (get_or l e 0) 1 ≡ Crossed d way →
-    Added vs X P l e (crossed + d) (to_z w32 sum +ℤ to_z w32 (of_z w32 way))
-walk_add {l = l} {e = e} sum way most fit at w one =
-    let next = walk_step w one in
-    let few : get_or l e 0 + 1 ≤ 4096 = omega (arith, at.below, most) in
-    let t = tallied_of {i = get_or l e 0 + 1} (next.tally _ (rw (add-one, add-one) (keep at.before refl))) in
-    let fits = sum_fits sum way fit few t in
-    record {
-      few = omega (arith, tallied_few t, few);
-      fits = fits;
-      walked = rw (to_z-of_z w32 _ fits, to_z-of_z w32 way fit) next;
-    }
+module _ {vs : List ℤ} {X P : Point} {l : List ℕ} {n e crossed d : ℕ} (sum way : ℤ) (most : n ≤ 4096) (fit : SFits w32 way)
+    (at : AtEntry (Idle vs X P) l 0 n e) (w : Walked vs X P l e crossed sum)
+    (one : tally_from vs X P (get_or l e 0) 1 ≡ Crossed d way) where
+  pub walk_add : Added vs X P l e (crossed + d) (to_z w32 (of_z w32 sum) +ℤ to_z w32 (of_z w32 way))
+  walk_add =
+      let few : get_or l e 0 + 1 ≤ 4096 = omega (arith, at.below, most) in
+      let held = sum_kept vs X P {i = get_or l e 0} (omega arith) (w.tally _ at.before) in
+      let next : Walked vs X P l (e + 1) (crossed + d) (to_z w32 (of_z w32 sum) +ℤ way) = walk_step (rw held w) one in
+      let t = tallied_of {i = get_or l e 0 + 1} (next.tally _ (rw (add-one, add-one) (keep at.before refl))) in
+      let sums = sum_fits (of_z w32 sum) way fit few t in
+      record {
+        few = omega (arith, tallied_few t, few);
+        fits = sums;
+        walked = rw (to_z-of_z w32 _ sums, to_z-of_z w32 way fit) next;
+      }
 
 -- ---- what is kept of a list
 module _ {test : ℕ → Bool} {l m : List ℕ} {a c : ℕ} where

@@ -18,9 +18,6 @@ pub loop-i-init : goal.loop-i-init
 unfolding outside_in
 loop-i-init c = (omega arith, refl)
 
-pub outside_at-outside-requires : goal.outside_at-outside-requires
-outside_at-outside-requires c = omega (arith, c.loop-i-test.true)
-
 -- So few positions that their count has a successor.
 short : (l : At-loop-i) → length l.before.before.args.degrees.now / 8 < 9223372036854775808
 short l = search rules
@@ -39,9 +36,6 @@ overflow_add-outside c =
       );
     }
 
-pub overflow_step-i : goal.overflow_step-i
-overflow_step-i c = record { fits = omega (arith, c.before.before.loop-i-test.true, short c.before.before.before) }
-
 pub loop-i-preserved : goal.loop-i-preserved
 loop-i-preserved c =
     let l = c.before.before.before in (
@@ -49,8 +43,3 @@ loop-i-preserved c =
       ap₂ ◌+◌ l.loop-i.invariant.1 c.outside_at-outside.ensures.0
           ∙ outside_more l.before.before.args.degrees.now l.loop-i.i,
     )
-
-pub returns : goal.returns
-returns c =
-    let e : c.before.before.loop-i.i ≡ position_count c.before.before.before.before.args.degrees.now = omega arith in
-    rw (← e) c.before.before.loop-i.invariant.1

@@ -13,29 +13,9 @@ use Rattle.degrees.proofs.put_all.Lts as lts
 use Rattle.degrees.proofs.put_all.Reads as reads
 use Rattle.degrees.proofs.put_all.Tie as tie
 
-abbrev At-loop-i : Type 0
-At-loop-i = lts.At-loop tie.the-claims reads.Pre reads.Post goal.the-invariant-loop-i goal.the-decreases-loop-i tie.handed_clauses
-
 pub loop-i-init : goal.loop-i-init
 unfolding rows_of
 loop-i-init c = (omega arith, refl, refl)
-
-pub put_one-requires : goal.put_one-requires
-put_one-requires c =
-    let l = c.before.before.before in
-    record {
-      i_bound = omega (arith, c.before.before.loop-i-test.true);
-      degrees_in_bounds = omega (arith, l.loop-i.invariant.1, l.before.before.before.requires);
-    }
-
--- So few positions that their count has a successor.
-short : (l : At-loop-i) →
-    length l.before.before.before.args.degrees.now / 8 < 9223372036854775808
-short l = search rules
-
-pub overflow_step-i : goal.overflow_step-i
-overflow_step-i c =
-    let t = c.before.before.before.before.before in record { fits = omega (arith, t.loop-i-test.true, short t.before) }
 
 pub loop-i-preserved : goal.loop-i-preserved
 loop-i-preserved c =
@@ -48,9 +28,6 @@ loop-i-preserved c =
       one.auto.points ∙ l.loop-i.invariant.1,
       rw l.loop-i.invariant.2 at one.ensures ∙ more,
     )
-
-pub shape_of-points : goal.shape_of-points
-shape_of-points c = c.before.before.loop-i.invariant.1
 
 pub returns : goal.returns
 unfolding points_bytes

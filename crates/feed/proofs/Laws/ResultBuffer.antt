@@ -10,8 +10,8 @@ use lib.ListN.{length, drop}
 use lib.Seq.{sets, sets-eq, length-sets, drop_at}
 use Rattle.sphere.specs.declared.point.Point.{Point}
 use Rattle.big_endian.proofs.Laws.RowBytes.{rows_length, row_at}
-use Rattle.answer.specs.declared.Check.TheVariants.{Passed}
-use Rattle.answer.specs.declared.Answer.{Answer}
+use Rattle.std.specs.declared.result.Result.TheVariants.{Ok}
+use Rattle.answer.specs.Refusal.{Answer}
 use Rattle.polygon.specs.Verdict.{answer_of}
 use Rattle.polygon.specs.Pair.{judge_from, optional_check}
 use Rattle.answer.specs.Buffer.{buffer_after}
@@ -29,22 +29,22 @@ module _ (limit : ℕ) (vs : List ℤ) (X Y : Point) (queries : List ℕ) where
 
   module _ (buffer : List ℕ) where
     -- The results in front, the rest as it was.
-    buffer-front : buffer_after Passed (feed_bytes limit vs X Y queries) buffer
+    buffer-front : buffer_after (Ok tt) (feed_bytes limit vs X Y queries) buffer
         ≡ feed_bytes limit vs X Y queries ++ drop (room_needed queries) buffer
     buffer-front = ap (λ (k : ℕ). feed_bytes limit vs X Y queries ++ drop k buffer) feed_bytes-length
 
     module _ (enough : room_needed queries ≤ length buffer) where
       pub buffer_stored : sets buffer 0 (feed_bytes limit vs X Y queries)
-          ≡ buffer_after Passed (feed_bytes limit vs X Y queries) buffer
+          ≡ buffer_after (Ok tt) (feed_bytes limit vs X Y queries) buffer
       buffer_stored =
           let bytes = feed_bytes limit vs X Y queries in
           let z : 0 + length bytes ≡ length bytes = omega arith in
           sets-eq bytes buffer 0 (omega (arith, feed_bytes-length, enough))
           ∙ ap (λ (k : ℕ). bytes ++ drop k buffer) z
 
-      pub buffer_results : optional_check limit vs X Y ≡ Passed →
+      pub buffer_results : optional_check limit vs X Y ≡ Ok tt →
           HoldsResults (λ P. answer_of limit vs (judge_from X Y P) P) queries buffer
-          (buffer_after Passed (feed_bytes limit vs X Y queries) buffer)
+          (buffer_after (Ok tt) (feed_bytes limit vs X Y queries) buffer)
       unfolding feed_bytes
       buffer_results ok =
           let after = drop (room_needed queries) buffer in

@@ -9,7 +9,7 @@ use lib.Seq.{sets, drop-drop}
 use Rattle.big_endian.specs.Bytes.{word_bytes}
 use Rattle.big_endian.proofs.Laws.Stores.{stored_on}
 use Rattle.big_endian.proofs.Laws.Written.{word_written}
-use Rattle.answer.specs.declared.Answer.{Answer}
+use Rattle.answer.specs.Refusal.{Answer}
 use Rattle.answer.specs.Answer.{number_of, place_of, count_of}
 use Rattle.feed.specs.Feed.{result_bytes}
 use Rattle.feed.specs.Claims.{Encodes}

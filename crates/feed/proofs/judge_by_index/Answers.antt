@@ -5,7 +5,6 @@ use native.Mathlib.Nat.{le_trans}
 use native.Mathlib.Omega.{arith}
 use borrow.Author.Rules.{rules}
 use Rattle.sphere.specs.Point.{limit_of}
-use Rattle.answer.specs.declared.Check.TheVariants.{Passed}
 use Rattle.polygon.specs.Checks.{accept_check}
 use Rattle.polygon.specs.Vertices.{vertices_count}
 use Rattle.polygon.proofs.Laws.Checks.{accept_passed}
@@ -14,12 +13,13 @@ use Rattle.feed.proofs.judge_by_index.Goals as goal
 use Rattle.feed.proofs.judge_by_index.Lts as lts
 use Rattle.feed.proofs.judge_by_index.Reads as reads
 use Rattle.feed.proofs.judge_by_index.Tie as tie
+use Rattle.std.specs.declared.result.Result.TheVariants.{Ok}
 
 abbrev Start : Type 0
 Start = lts.Start tie.the-claims reads.Pre reads.Post tie.handed_clauses
 
 -- The known point is accepted.
-accepted : (s : Start) → accept_check (limit_of s.args.grid) s.args.vertices.now s.args.known ≡ Passed
+accepted : (s : Start) → accept_check (limit_of s.args.grid) s.args.vertices.now s.args.known ≡ Ok tt
 accepted s =
     optional_first (limit_of s.args.grid) s.args.vertices.now s.args.known s.args.second s.requires.second_value.0
 

@@ -1,17 +1,17 @@
--- One field. Proved, in order: field_head_missing, field_tag_wrong, field_length_wrong, field_body_missing,
--- field_passed (what the check of a field says in each case), passed_field (and back), allowed_bounds, bounds_allowed,
--- passed_sound (a field that passed, as numbers), charset_field; passed_fields, passed_spans (a sheet whose five fields
--- passed); five_passed, second_missing, second_passed, second_body, end_absent, end_present, end_within (and its
--- sixth).
+-- One field. Proved, in order: field_passed, passed_field (a field that passes, and back), allowed_bounds,
+-- bounds_allowed, passed_sound (a field that passed, as numbers), charset_field, charset_ends; passed_fields,
+-- passed_spans, known_within (a sheet whose five fields passed); five_passed, second_passed, second_body, end_absent,
+-- end_present, end_within (and its sixth).
 use mathlib.Core.Path.{◌≡◌, refl}
 use mathlib.Core.Bool.{Bool, true, false}
 use mathlib.Core.List.{List}
-use Prim.Native.Nat.{ℕ, ◌+◌, ◌%◌, ◌≤◌, ◌<◌}
+use Prim.Native.Nat.{ℕ, ◌+◌, ◌%◌, ◌≤◌}
 use native.Mathlib.Omega.{arith}
-use borrow.Author.Tests.{lt-ltb, le-ltb, le-leb, eq-eqb, ne_eqb, ltb-false, eqb-true, leb-true, not-false}
-use lib.ListN.{length, get_or-eq_default}
+use borrow.Author.Tests.{le-ltb, le-leb, eq-eqb, ltb-false, eqb-true, leb-true, not-false}
+use lib.ListN.{length}
 use Rattle.big_endian.specs.Bytes.{byte_at, short_at}
-use Rattle.answer.specs.declared.Check.TheVariants.{Passed, Failed}
+use Rattle.std.specs.declared.result.Result.TheVariants.{Ok}
+use Rattle.answer.specs.declared.Reason.TheVariants.{FieldCut, FieldLength, FieldTag}
 use Rattle.answer.proofs.Laws.Chain.{here_passed, then_passed, both_true}
 use Rattle.fields.specs.Fields.{is_allowed, field_check, field_end, charset_start, name_start, known_start}
 use Rattle.fields.specs.Fields.{vertices_start, grid_of, tag_of, second_start, has_second_point, sheet_end, zone_check}
@@ -26,45 +26,24 @@ pub record Field (tag : ℕ) (isLength : ℕ → Bool) (b : List ℕ) (at : ℕ)
   pub body : field_end b at ≤ length b
 
 module _ (tag : ℕ) (isLength : ℕ → Bool) (b : List ℕ) (at : ℕ) where
-  pub field_head_missing : length b < at + 3 → field_check tag isLength b at ≡ Failed 20 at
-  unfolding field_check
-  field_head_missing h = rw (lt-ltb (length b) (at + 3) h)
-
-  pub field_tag_wrong : at + 3 ≤ length b → (byte_at b at ≡ tag → ⊥) → field_check tag isLength b at ≡ Failed 21 at
-  unfolding field_check
-  field_tag_wrong h t = rw (le-ltb (length b) (at + 3) h, ne_eqb (byte_at b at) tag t)
-
-  pub field_length_wrong :
-      at + 3 ≤ length b → byte_at b at ≡ tag → isLength (short_at b (at + 1)) ≡ false →
-      field_check tag isLength b at ≡ Failed 22 at
-  unfolding field_check
-  field_length_wrong h t l = rw (le-ltb (length b) (at + 3) h, eq-eqb (byte_at b at) tag t, l)
-
-  pub field_body_missing :
-      at + 3 ≤ length b → byte_at b at ≡ tag → isLength (short_at b (at + 1)) ≡ true → length b < field_end b at →
-      field_check tag isLength b at ≡ Failed 20 at
-  unfolding field_check
-  field_body_missing h t l s =
-      rw (le-ltb (length b) (at + 3) h, eq-eqb (byte_at b at) tag t, l, lt-ltb (length b) (field_end b at) s)
-
-  pub field_passed : Field tag isLength b at → field_check tag isLength b at ≡ Passed
+  pub field_passed : Field tag isLength b at → field_check tag isLength b at ≡ Ok tt
   unfolding field_check
   field_passed f =
       let h = le-ltb (length b) (at + 3) f.head in
       let t = eq-eqb (byte_at b at) tag f.tagged in
       rw (h, t, f.allowed, le-ltb (length b) (field_end b at) f.body)
 
-  pub passed_field : field_check tag isLength b at ≡ Passed → Field tag isLength b at
+  pub passed_field : field_check tag isLength b at ≡ Ok tt → Field tag isLength b at
   unfolding field_check
   passed_field e =
       let one = then_passed _ _ e in
       let two = then_passed _ _ one.1 in
       let three = then_passed _ _ two.1 in
       record {
-        head = ltb-false (length b) (at + 3) (here_passed 20 at _ one.0);
-        tagged = eqb-true (byte_at b at) tag (not-false _ (here_passed 21 at _ two.0));
-        allowed = not-false _ (here_passed 22 at _ three.0);
-        body = ltb-false (length b) (field_end b at) (here_passed 20 at _ three.1);
+        head = ltb-false (length b) (at + 3) (here_passed FieldCut at _ one.0);
+        tagged = eqb-true (byte_at b at) tag (not-false _ (here_passed FieldTag at _ two.0));
+        allowed = not-false _ (here_passed FieldLength at _ three.0);
+        body = ltb-false (length b) (field_end b at) (here_passed FieldCut at _ three.1);
       }
 
 -- ---- the lengths of a field that passed
@@ -96,27 +75,30 @@ pub record Sound (least most step : ℕ) (b : List ℕ) (at : ℕ) : Type 0 wher
   pub ends : at + 3 + short_at b (at + 1) ≤ length b
 
 pub passed_sound :
-    (tag least most step : ℕ) (b : List ℕ) (at : ℕ) → field_check tag (is_allowed least most step) b at ≡ Passed →
+    (tag least most step : ℕ) (b : List ℕ) (at : ℕ) → field_check tag (is_allowed least most step) b at ≡ Ok tt →
     Sound least most step b at
 unfolding field_end
 passed_sound tag least most step b at e =
     let f = passed_field tag (is_allowed least most step) b at e in
     record { size = allowed_bounds least most step _ f.allowed; ends = f.body }
 
-pub charset_field : (b : List ℕ) → charset_check b ≡ Passed → field_check 2 (is_allowed 1 1 1) b charset_start ≡ Passed
+pub charset_field : (b : List ℕ) → charset_check b ≡ Ok tt → field_check 2 (is_allowed 1 1 1) b charset_start ≡ Ok tt
 unfolding charset_check
 charset_field b e = (then_passed _ _ e).0
+
+pub charset_ends : (b : List ℕ) → charset_check b ≡ Ok tt → 11 ≤ length b
+charset_ends b e = let s = passed_sound 2 1 1 1 b charset_start (charset_field b e) in omega arith
 
 -- ---- a sheet whose five fields passed
 
 pub record Fields (b : List ℕ) : Type 0 where
-  pub zone : zone_check b ≡ Passed
-  pub charset : charset_check b ≡ Passed
-  pub name : name_check b ≡ Passed
-  pub known : known_check b ≡ Passed
-  pub vertices : vertices_check b ≡ Passed
+  pub zone : zone_check b ≡ Ok tt
+  pub charset : charset_check b ≡ Ok tt
+  pub name : name_check b ≡ Ok tt
+  pub known : known_check b ≡ Ok tt
+  pub vertices : vertices_check b ≡ Ok tt
 
-pub passed_fields : (b : List ℕ) → five_fields b ≡ Passed → Fields b
+pub passed_fields : (b : List ℕ) → five_fields b ≡ Ok tt → Fields b
 unfolding five_fields
 passed_fields b e =
     let one = then_passed _ _ e in
@@ -133,7 +115,7 @@ pub record Spans (b : List ℕ) : Type 0 where
   pub second_at : second_start b ≡ known_start b + 18 + short_at b (vertices_start b + 1)
   pub ends : second_start b ≤ length b
 
-pub passed_spans : (b : List ℕ) → five_fields b ≡ Passed → Spans b
+pub passed_spans : (b : List ℕ) → five_fields b ≡ Ok tt → Spans b
 unfolding field_end
 passed_spans b e =
     let f = passed_fields b e in
@@ -146,25 +128,23 @@ passed_spans b e =
       ends = v.ends;
     }
 
+pub known_within : (b : List ℕ) → five_fields b ≡ Ok tt → (14 ≤ length b) × (known_start b ≤ 134)
+known_within b e = let s = passed_spans b e in (omega arith, omega arith)
+
 -- ---- and its sixth, if there is one
 
 module _ (b : List ℕ) where
-  pub five_passed : sheet_fields b ≡ Passed → five_fields b ≡ Passed
+  pub five_passed : sheet_fields b ≡ Ok tt → five_fields b ≡ Ok tt
   unfolding sheet_fields
   five_passed e = (then_passed (five_fields b) (second_field b) e).0
 
-  -- Past the end there is no byte 6.
-  pub second_missing : length b ≤ second_start b → has_second_point b ≡ false
-  unfolding has_second_point
-  second_missing h = rw (get_or-eq_default b 0 h)
-
-  pub second_passed : sheet_fields b ≡ Passed → has_second_point b ≡ true → Field 6 (is_allowed 12 12 1) b (second_start b)
+  pub second_passed : sheet_fields b ≡ Ok tt → has_second_point b ≡ true → Field 6 (is_allowed 12 12 1) b (second_start b)
   unfolding sheet_fields second_field
   second_passed e has =
       passed_field 6 (is_allowed 12 12 1) b (second_start b)
       (rw has at (then_passed (five_fields b) (second_field b) e).1)
 
-  pub second_body : sheet_fields b ≡ Passed → has_second_point b ≡ true → second_start b + 15 ≤ length b
+  pub second_body : sheet_fields b ≡ Ok tt → has_second_point b ≡ true → second_start b + 15 ≤ length b
   unfolding field_end
   second_body e has =
       let f = second_passed e has in
@@ -177,7 +157,7 @@ module _ (b : List ℕ) where
   pub end_present : has_second_point b ≡ true → sheet_end b ≡ second_start b + 15
   end_present e = rw e
 
-  pub end_within : sheet_fields b ≡ Passed → sheet_end b ≤ length b
+  pub end_within : sheet_fields b ≡ Ok tt → sheet_end b ≤ length b
   end_within e = go (has_second_point b) refl
     where
       go : (t : Bool) → has_second_point b ≡ t → sheet_end b ≤ length b

@@ -1,7 +1,7 @@
 -- The sheet in front of some bytes, refused: 20 to 23, at a place among the bytes or just past them. Defined: Refuses.
 -- Proved, in order: passed_refuses, failed_refuses, refuses_then, refuses_here, refuses_if, refuses_field,
 -- refuses_charset, refuses_five, refuses_front.
-use mathlib.Core.Path.{◌≡◌, refl, sym}
+use mathlib.Core.Path.{◌≡◌, refl, sym, subst}
 use mathlib.Core.Bool.{Bool, true, false, not, cond}
 use mathlib.Core.List.{List}
 use Prim.Native.Nat.{ℕ, ◌+◌, ◌≤◌}
@@ -9,8 +9,11 @@ use native.Mathlib.Omega.{arith}
 use lib.Dec.{eqb, ltb}
 use lib.ListN.{length}
 use Rattle.big_endian.specs.Bytes.{byte_at, short_at}
-use Rattle.answer.specs.declared.Check.{Check}
-use Rattle.answer.specs.declared.Check.TheVariants.{Passed, Failed}
+use Rattle.std.specs.declared.result.Result.TheVariants.{Ok, Err}
+use Rattle.answer.specs.declared.Refusal.{Refusal}
+use Rattle.answer.specs.declared.Reason.{Reason}
+use Rattle.answer.specs.declared.Reason.TheVariants.{Charset, FieldCut, FieldLength, FieldTag}
+use Rattle.answer.specs.Refusal.{Check, reason_number, fails}
 use Rattle.answer.specs.Chain.{◌then◌, fails_here}
 use Rattle.answer.proofs.Laws.Chain.{failed_not_passed}
 use Rattle.fields.specs.Fields.{is_allowed, field_check, field_end, is_charset, charset_check, five_fields, second_field}
@@ -21,30 +24,34 @@ use Rattle.fields.proofs.Laws.Fields.{passed_sound, passed_spans, charset_field}
 
 -- If the check fails, its number is 20 to 23 and its place at most `most`.
 pub record Refuses (most : ℕ) (c : Check) : Type 0 where
-  pub refusal : (n p : ℕ) → c ≡ Failed n p → (20 ≤ n) × (n ≤ 23) × (p ≤ most)
+  pub refusal : (refusal : Refusal) → c ≡ Err refusal →
+      (20 ≤ reason_number refusal.reason) × (reason_number refusal.reason ≤ 23) × (refusal.place ≤ most)
 
-passed_refuses : {most : ℕ} → Refuses most Passed
-passed_refuses = record { refusal = λ n p e. failed_not_passed (sym e) }
+passed_refuses : {most : ℕ} → Refuses most (Ok tt)
+passed_refuses = record { refusal = λ r e. failed_not_passed (sym e) }
 
-failed_refuses : {most n p : ℕ} → 20 ≤ n → n ≤ 23 → p ≤ most → Refuses most (Failed n p)
-failed_refuses {most} {n} {p} low high h = record {
-  refusal = λ k q e. let z = same e in (omega arith, omega arith, omega arith);
+failed_refuses :
+    {most : ℕ} {reason : Reason} {place : ℕ} → 20 ≤ reason_number reason → reason_number reason ≤ 23 → place ≤ most →
+    Refuses most (fails reason place)
+failed_refuses {most} {reason} {place} low high h = record {
+  refusal = λ r e. subst (λ r. (20 ≤ reason_number r.reason) × (reason_number r.reason ≤ 23) × (r.place ≤ most)) (same e)
+      (low, high, h);
 }
   where
-    same : {n p k q : ℕ} → Failed n p ≡ Failed k q → (n ≡ k) × (p ≡ q)
-    same e = (cc, cc)
+    same : {q r : Refusal} → ◌≡◌ {A = Check} (Err q) (Err r) → q ≡ r
+    same e = cc
 
-pub refuses_then : {most : ℕ} (c d : Check) → Refuses most c → (c ≡ Passed → Refuses most d) → Refuses most (c then d)
-refuses_then Passed d h g = g refl
-refuses_then (Failed n p) d h g = let z = h.refusal n p refl in failed_refuses z.0 z.1 z.2
+pub refuses_then : {most : ℕ} (c d : Check) → Refuses most c → (c ≡ Ok tt → Refuses most d) → Refuses most (c then d)
+refuses_then (Ok unit) d h g = g refl
+refuses_then (Err refusal) d h g = h
 
 refuses_here :
-    {most : ℕ} (number place : ℕ) (bad : Bool) → 20 ≤ number → number ≤ 23 → place ≤ most →
-    Refuses most (fails_here number place bad)
-refuses_here number place true low high h = failed_refuses low high h
-refuses_here number place false low high h = passed_refuses
+    {most : ℕ} (reason : Reason) (place : ℕ) (bad : Bool) → 20 ≤ reason_number reason → reason_number reason ≤ 23 →
+    place ≤ most → Refuses most (fails_here reason place bad)
+refuses_here reason place true low high h = failed_refuses low high h
+refuses_here reason place false low high h = passed_refuses
 
-refuses_if : {most : ℕ} {c : Check} (t : Bool) → Refuses most c → Refuses most (cond t c Passed)
+refuses_if : {most : ℕ} {c : Check} (t : Bool) → Refuses most c → Refuses most (cond t c (Ok tt))
 refuses_if true h = h
 refuses_if false h = passed_refuses
 
@@ -53,16 +60,16 @@ refuses_field :
     Refuses most (field_check tag isLength b at)
 unfolding field_check
 refuses_field tag isLength b at h =
-    refuses_then _ _ (refuses_here 20 at (ltb (length b) (at + 3)) (omega arith) (omega arith) h)
-    (λ _. refuses_then _ _ (refuses_here 21 at (not (eqb (byte_at b at) tag)) (omega arith) (omega arith) h)
-    (λ _. refuses_then _ _ (refuses_here 22 at (not (isLength (short_at b (at + 1)))) (omega arith) (omega arith) h)
-    (λ _. refuses_here 20 at (ltb (length b) (field_end b at)) (omega arith) (omega arith) h)))
+    refuses_then _ _ (refuses_here FieldCut at (ltb (length b) (at + 3)) (omega arith) (omega arith) h)
+    (λ _. refuses_then _ _ (refuses_here FieldTag at (not (eqb (byte_at b at) tag)) (omega arith) (omega arith) h)
+    (λ _. refuses_then _ _ (refuses_here FieldLength at (not (isLength (short_at b (at + 1)))) (omega arith) (omega arith) h)
+    (λ _. refuses_here FieldCut at (ltb (length b) (field_end b at)) (omega arith) (omega arith) h)))
 
 refuses_charset : {most : ℕ} (b : List ℕ) → 7 ≤ most → Refuses most (charset_check b)
 unfolding charset_check
 refuses_charset b h =
     refuses_then _ _ (refuses_field 2 (is_allowed 1 1 1) b 7 h)
-    (λ _. refuses_here 23 7 (not (is_charset (byte_at b 10))) (omega arith) (omega arith) h)
+    (λ _. refuses_here Charset 7 (not (is_charset (byte_at b 10))) (omega arith) (omega arith) h)
 
 -- Each field begins where one that passed ends.
 refuses_five : (b : List ℕ) → Refuses (length b) (five_fields b)

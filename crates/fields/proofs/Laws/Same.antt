@@ -13,7 +13,8 @@ use lib.ListN.{length, take, length-append, get_or-append, get_or-eq_default}
 use lib.Seq.{length-take-le, get_or-take}
 use Rattle.sphere.specs.declared.point.Grid.TheVariants.{Coarse, Fine}
 use Rattle.big_endian.specs.Bytes.{byte_at, short_at}
-use Rattle.answer.specs.declared.Check.TheVariants.{Passed}
+use Rattle.std.specs.declared.result.Result.TheVariants.{Ok}
+use Rattle.answer.specs.declared.Reason.TheVariants.{Charset, TrailingBytes}
 use Rattle.answer.specs.Chain.{fails_here}
 use Rattle.answer.proofs.Laws.Chain.{here_passed, then_passed}
 use Rattle.fields.specs.Fields.{is_allowed, field_end, field_check, known_start, vertices_start, second_start, has_second_point}
@@ -46,13 +47,13 @@ module _ {n : ℕ} {b c : List ℕ} (s : Same n b c) where
     body = rw (same_short (at + 1) (omega arith)) (omega (arith, s.room));
   }
 
-five_passed_back : (b : List ℕ) → Fields b → five_fields b ≡ Passed
+five_passed_back : (b : List ℕ) → Fields b → five_fields b ≡ Ok tt
 unfolding five_fields
 five_passed_back b f = rw (f.zone, f.charset, f.name, f.known, f.vertices)
 
 -- ---- the five fields, and the sixth
 
-module _ {n : ℕ} {b c : List ℕ} (s : Same n b c) (e : five_fields b ≡ Passed) (h : second_start b ≤ n) where
+module _ {n : ℕ} {b c : List ℕ} (s : Same n b c) (e : five_fields b ≡ Ok tt) (h : second_start b ≤ n) where
   same_known : known_start c ≡ known_start b
   same_known = let p = passed_spans b e in same_end s 11 (omega (arith, p.known_at, p.second_at, p.name.low))
 
@@ -69,7 +70,7 @@ module _ {n : ℕ} {b c : List ℕ} (s : Same n b c) (e : five_fields b ≡ Pass
       ap (λ k. field_end c (k + 15)) same_known
       ∙ same_end s (vertices_start b) (omega (arith, p.second_at, p.row.low))
 
-  same_charset : charset_check c ≡ Passed
+  same_charset : charset_check c ≡ Ok tt
   unfolding charset_check field_end
   same_charset =
       let p = passed_spans b e in
@@ -78,10 +79,10 @@ module _ {n : ℕ} {b c : List ℕ} (s : Same n b c) (e : five_fields b ≡ Pass
       let a = allowed_bounds 1 1 1 (short_at b 8) g.allowed in
       rw (field_passed 2 (is_allowed 1 1 1) c 7
       (same_field s 2 (is_allowed 1 1 1) 7 g (omega (arith, p.second_at, p.known_at, a.high))))
-      (ap (λ k. fails_here 23 7 (not (is_charset k))) (s.byte 10 (omega (arith, p.second_at, p.known_at)))
+      (ap (λ k. fails_here Charset 7 (not (is_charset k))) (s.byte 10 (omega (arith, p.second_at, p.known_at)))
       ∙ (then_passed (field_check 2 (is_allowed 1 1 1) b 7) _ f).1)
 
-  same_five : five_fields c ≡ Passed
+  same_five : five_fields c ≡ Ok tt
   unfolding field_end
   same_five =
       let p = passed_spans b e in
@@ -111,9 +112,9 @@ module _ {n : ℕ} {b c : List ℕ} (s : Same n b c) (e : five_fields b ≡ Pass
       }
 
 -- A sheet in front, and the same sheet in front of other bytes, which do not go on with a byte 6.
-module _ {b c : List ℕ} (e : sheet_fields b ≡ Passed) (s : Same (sheet_end b) b c)
+module _ {b c : List ℕ} (e : sheet_fields b ≡ Ok tt) (s : Same (sheet_end b) b c)
     (other : has_second_point b ≡ false → byte_at c (sheet_end b) ≡ 6 → ⊥) where
-  six_same : has_second_point b ≡ true → (sheet_fields c ≡ Passed) × (sheet_end c ≡ sheet_end b)
+  six_same : has_second_point b ≡ true → (sheet_fields c ≡ Ok tt) × (sheet_end c ≡ sheet_end b)
   unfolding sheet_fields second_field has_second_point field_end
   six_same has =
       let five = five_passed b e in
@@ -129,7 +130,7 @@ module _ {b c : List ℕ} (e : sheet_fields b ≡ Passed) (s : Same (sheet_end b
         end_present c there ∙ ap (λ k. k + 15) at ∙ sym ends,
       )
 
-  five_same : has_second_point b ≡ false → (sheet_fields c ≡ Passed) × (sheet_end c ≡ sheet_end b)
+  five_same : has_second_point b ≡ false → (sheet_fields c ≡ Ok tt) × (sheet_end c ≡ sheet_end b)
   unfolding sheet_fields second_field has_second_point
   five_same has =
       let five = five_passed b e in
@@ -139,16 +140,16 @@ module _ {b c : List ℕ} (e : sheet_fields b ≡ Passed) (s : Same (sheet_end b
       ne_eqb (byte_at c (second_start c)) 6 (λ z. other has (ap (byte_at c) (ends ∙ sym at) ∙ z)) in
       (rw (same_five s five (omega arith), missing), end_absent c missing ∙ at ∙ sym ends)
 
-  pub same_front : (sheet_fields c ≡ Passed) × (sheet_end c ≡ sheet_end b)
+  pub same_front : (sheet_fields c ≡ Ok tt) × (sheet_end c ≡ sheet_end b)
   same_front = go (has_second_point b) refl
     where
-      go : (t : Bool) → has_second_point b ≡ t → (sheet_fields c ≡ Passed) × (sheet_end c ≡ sheet_end b)
+      go : (t : Bool) → has_second_point b ≡ t → (sheet_fields c ≡ Ok tt) × (sheet_end c ≡ sheet_end b)
       go true has = six_same has
       go false has = five_same has
 
 -- ---- a sheet by itself
 
-pub cut_out : (b : List ℕ) → sheet_fields b ≡ Passed → fields_check (take (sheet_end b) b) ≡ Passed
+pub cut_out : (b : List ℕ) → sheet_fields b ≡ Ok tt → fields_check (take (sheet_end b) b) ≡ Ok tt
 unfolding fields_check rest_check
 cut_out b e =
     let c = take (sheet_end b) b in
@@ -159,13 +160,13 @@ cut_out b e =
     rw (f.0, le-ltb (sheet_end c) (length c) (omega (arith, f.1)))
 
 -- A sheet, and bytes after it that do not begin with 6.
-pub put_before : (b more : List ℕ) → fields_check b ≡ Passed → (byte_at (b ++ more) (length b) ≡ 6 → ⊥) →
-    (sheet_fields (b ++ more) ≡ Passed) × (sheet_end (b ++ more) ≡ length b)
+pub put_before : (b more : List ℕ) → fields_check b ≡ Ok tt → (byte_at (b ++ more) (length b) ≡ 6 → ⊥) →
+    (sheet_fields (b ++ more) ≡ Ok tt) × (sheet_end (b ++ more) ≡ length b)
 unfolding fields_check rest_check
 put_before b more e other =
     let one = then_passed (sheet_fields b) (rest_check b) e in
     let within = end_within b one.0 in
-    let whole = ltb-false (sheet_end b) (length b) (here_passed 24 (sheet_end b) _ one.1) in
+    let whole = ltb-false (sheet_end b) (length b) (here_passed TrailingBytes (sheet_end b) _ one.1) in
     let ends : sheet_end b ≡ length b = omega arith in
     let s : Same (sheet_end b) b (b ++ more) = record {
       room = omega (arith, length-append b more);

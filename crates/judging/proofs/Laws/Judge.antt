@@ -4,8 +4,8 @@ use mathlib.Core.List.{List}
 use Prim.Native.Nat.{ℕ}
 use lib.IntN.{ℤ}
 use Rattle.sphere.specs.declared.point.Point.{Point}
-use Rattle.answer.specs.declared.Found.{Found}
-use Rattle.answer.specs.declared.Found.TheVariants.{Nothing, At}
+use Rattle.std.specs.declared.option.Option.{Option}
+use Rattle.std.specs.declared.option.Option.TheVariants.{None, Some}
 use Rattle.answer.specs.Search.{first_from}
 use Rattle.polygon.specs.Vertices.{vertices_count}
 use Rattle.polygon.specs.Verdict.{is_on_border, boundary_of, crossings_of, winding_of, verdict_by, verdict_of}
@@ -19,9 +19,9 @@ pub verdict_tally : (vs : List ℤ) (X P : Point) → verdict_on (tally_from vs 
 unfolding tally_from verdict_of boundary_of crossings_of winding_of
 verdict_tally vs X P = go (first_from (is_on_border vs P) 0 (vertices_count vs)) _ _
   where
-    go : (found : Found) (c : ℕ) (s : ℤ) → verdict_on (tally_by found c s) ≡ verdict_by found c s
-    go Nothing c s = refl
-    go (At edge) c s = refl
+    go : (found : Option ℕ) (c : ℕ) (s : ℤ) → verdict_on (tally_by found c s) ≡ verdict_by found c s
+    go None c s = refl
+    go (Some edge) c s = refl
 
 -- None in every mode.
 pub none_looked : (mode : Mode) → 0 ≡ looked_in mode 0

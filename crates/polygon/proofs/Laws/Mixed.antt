@@ -7,9 +7,10 @@ use Prim.Native.Nat.{ℕ}
 use native.Mathlib.Omega.{arith}
 use lib.IntN.{ℤ}
 use Rattle.sphere.specs.declared.point.Point.{Point}
-use Rattle.answer.specs.declared.Answer.{Answer}
-use Rattle.answer.specs.declared.Check.{Check}
-use Rattle.answer.specs.declared.Check.TheVariants.{Passed, Failed}
+use Rattle.std.specs.declared.result.Result.TheVariants.{Ok, Err}
+use Rattle.answer.specs.declared.Reason.TheVariants.{OtherGrid}
+use Rattle.answer.specs.Refusal.{Answer}
+use Rattle.answer.specs.Refusal.{Check}
 use Rattle.answer.specs.Answer.{number_of, answer_after}
 use Rattle.answer.specs.Chain.{◌then◌, fails_if}
 use Rattle.polygon.specs.Checks.{list_check, accept_check}
@@ -20,14 +21,14 @@ use Rattle.polygon.proofs.Laws.Numbers.{list_numbered, accept_numbered}
 
 pub mixed_after : (before : Check) (mixed : Bool) (answer : Answer) →
     Numbered (Other 28) before → Other 28 (number_of answer) →
-    Mixed (answer_after (before then fails_if 28 mixed) answer) before mixed
-mixed_after Passed true answer x y = record { refused→mixed = λ e. (refl, refl); mixed→refused = λ e f. refl }
-mixed_after Passed false answer x y = record {
+    Mixed (answer_after (before then fails_if OtherGrid mixed) answer) before mixed
+mixed_after (Ok unit) true answer x y = record { refused→mixed = λ e. (refl, refl); mixed→refused = λ e f. refl }
+mixed_after (Ok unit) false answer x y = record {
   refused→mixed = λ e. absurd (y e);
   mixed→refused = λ e f. absurd (let z : ◌≡◌ {A = ℕ} 0 1 = cc in omega arith);
 }
-mixed_after (Failed number place) mixed answer x y = record {
-  refused→mixed = λ e. absurd (x.each number place refl e);
+mixed_after (Err refusal) mixed answer x y = record {
+  refused→mixed = λ e. absurd (x.each refusal refl e);
   mixed→refused = λ e f. failed_not_passed e;
 }
 

@@ -12,54 +12,48 @@ use Rattle.sphere.specs.declared.point.Point.{Point}
 use Rattle.sphere.specs.Point.{is_null, is_off_grid}
 use Rattle.sphere.specs.Orientation.{orientation_of}
 use Rattle.sphere.specs.Direction.{is_antipodal}
-use Rattle.answer.specs.declared.Found.{Found}
-use Rattle.answer.specs.declared.Found.TheVariants.{Nothing, At}
-use Rattle.polygon.specs.declared.checks.Line.{Line}
-use Rattle.polygon.specs.declared.checks.Line.TheVariants.{Beyond, Null, Same, Antipodal}
-use Rattle.answer.specs.declared.Answer.TheVariants.{Inside, Outside}
+use Rattle.std.specs.declared.option.Option.{Option}
+use Rattle.std.specs.declared.option.Option.TheVariants.{None, Some}
+use Rattle.std.specs.declared.result.Result.TheVariants.{Ok}
+use Rattle.answer.specs.declared.Reason.TheVariants.{AntipodalEnds, QueryAntipodal, QueryOffGrid, ReferenceOffGrid, ReferenceOnCircle, SameEnds, SecondPoint, VertexBeyond, VertexList, VertexNull}
+use Rattle.answer.specs.declared.Verdict.TheVariants.{Inside, Outside}
 use Rattle.answer.specs.Search.{first_from}
 use Rattle.polygon.specs.Vertices.{vertices_count, start_of, end_of}
 use Rattle.answer.specs.Answer.{number_of}
-use Rattle.polygon.specs.Checks.{is_vertex_list, list_check, reference_check, circle_check, query_check, far_check}
+use Rattle.polygon.specs.Checks.{is_vertex_list, list_check, reference_check, circle_check, query_check, far_check, beyond_check, null_check, same_check, antipodal_check}
 use Rattle.polygon.specs.Checks.{polygon_check, accept_check, judge_check}
-use Rattle.polygon.specs.Lines.{line_number, line_check, is_refused}
 use Rattle.polygon.specs.Verdict.{boundary_of, crossings_of, winding_of, verdict_by, verdict_of, answer_of}
 use Rattle.polygon.specs.Pair.{is_second, second_check, pair_check, optional_check}
-use Rattle.polygon.proofs.Laws.Lines.{line_search}
 use Rattle.answer.proofs.Laws.Numbers.{Numbered, ◌both◌, if_numbered, at_numbered, unless_numbered, after_numbered}
 
 -- ---- lines 10 to 19
 module _ (Is : ℕ → Type 0) (limit : ℕ) (vs : List ℤ) where
   pub list_numbered : Is 10 → Numbered Is (list_check vs)
   unfolding list_check
-  list_numbered h = if_numbered 10 (not (is_vertex_list vs)) h
+  list_numbered h = if_numbered VertexList (not (is_vertex_list vs)) h
 
   pub second_numbered : (X Y : Point) → Is 19 → Numbered Is (second_check limit vs X Y)
   unfolding second_check
-  second_numbered X Y h = if_numbered 19 (not (is_second limit vs X Y)) h
+  second_numbered X Y h = if_numbered SecondPoint (not (is_second limit vs X Y)) h
 
   module _ (list : Numbered Is (list_check vs)) (h : (n : ℕ) → 10 < n → n < 17 → Is n) (X : Point) where
-    line : (l : Line) → Is (line_number l) → Numbered Is (line_check l limit vs)
-    line l i =
-        rw (line_search l limit vs) (at_numbered (line_number l) (first_from (is_refused l limit vs) 0 (vertices_count vs)) i)
-
     reference : Numbered Is (reference_check limit X)
     unfolding reference_check
-    reference = if_numbered 15 (is_off_grid limit X) (h 15 (lit< tt) (lit< tt))
+    reference = if_numbered ReferenceOffGrid (is_off_grid limit X) (h 15 (lit< tt) (lit< tt))
 
     circle : Numbered Is (circle_check vs X)
     unfolding circle_check
     circle =
         let test : ℕ → Bool = λ i. is_zero (sign_of (orientation_of (start_of vs i) (end_of vs i) X)) in
-        at_numbered 16 (first_from test 0 (vertices_count vs)) (h 16 (lit< tt) (lit< tt))
+        at_numbered ReferenceOnCircle (first_from test 0 (vertices_count vs)) (h 16 (lit< tt) (lit< tt))
 
     pub accept_numbered : Numbered Is (accept_check limit vs X)
-    unfolding accept_check polygon_check
+    unfolding accept_check polygon_check beyond_check null_check same_check antipodal_check
     accept_numbered =
-        (list both line Beyond (h 11 (lit< tt) (lit< tt))
-        both line Null (h 12 (lit< tt) (lit< tt))
-        both line Same (h 13 (lit< tt) (lit< tt))
-        both line Antipodal (h 14 (lit< tt) (lit< tt)))
+        (list both at_numbered VertexBeyond _ (h 11 (lit< tt) (lit< tt))
+        both at_numbered VertexNull _ (h 12 (lit< tt) (lit< tt))
+        both at_numbered SameEnds _ (h 13 (lit< tt) (lit< tt))
+        both at_numbered AntipodalEnds _ (h 14 (lit< tt) (lit< tt)))
         both reference
         both circle
 
@@ -74,17 +68,17 @@ module _ (Is : ℕ → Type 0) (limit : ℕ) (vs : List ℤ) where
     pub judge_numbered : Is 17 → Is 18 → (P : Point) → Numbered Is (judge_check limit vs X P)
     unfolding judge_check query_check far_check
     judge_numbered h17 h18 P =
-        accept_numbered both if_numbered 17 (is_off_grid limit P) h17 both if_numbered 18 (is_antipodal X P) h18
+        accept_numbered both if_numbered QueryOffGrid (is_off_grid limit P) h17 both if_numbered QueryAntipodal (is_antipodal X P) h18
 
 -- ---- the verdict: 1, 2 and 3
 module _ (Is : ℕ → Type 0) (h1 : Is 1) (h2 : Is 2) where
-  pub parity_numbered : (even : Bool) (c : ℕ) (s : ℤ) → Is (number_of (cond even (Inside c s) (Outside c s)))
+  pub parity_numbered : (even : Bool) (c : ℕ) (s : ℤ) → Is (number_of (cond even (Ok (Inside c s)) (Ok (Outside c s))))
   parity_numbered true c s = h1
   parity_numbered false c s = h2
 
-  pub verdict_numbered : Is 3 → (f : Found) (c : ℕ) (s : ℤ) → Is (number_of (verdict_by f c s))
-  verdict_numbered h3 (At edge) c s = h3
-  verdict_numbered h3 Nothing c s = parity_numbered (eqb (c % 2) 0) c s
+  pub verdict_numbered : Is 3 → (f : Option ℕ) (c : ℕ) (s : ℤ) → Is (number_of (verdict_by f c s))
+  verdict_numbered h3 (Some edge) c s = h3
+  verdict_numbered h3 None c s = parity_numbered (eqb (c % 2) 0) c s
 
 -- The answer to any input: 1 to 3, or 10 to 18.
 pub answer_numbered : (Is : ℕ → Type 0) (limit : ℕ) (vs : List ℤ) → ((n : ℕ) → 0 < n → n < 19 → Is n) →

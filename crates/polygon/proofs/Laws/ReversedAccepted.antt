@@ -14,7 +14,8 @@ use Rattle.sphere.specs.Point.{is_beyond}
 use Rattle.sphere.specs.Orientation.{orientation_of}
 use Rattle.sphere.proofs.Laws.Orientation.{orientation_swap}
 use Rattle.sphere.proofs.Laws.OnEdge.{ne→not-zero}
-use Rattle.answer.specs.declared.Check.TheVariants.{Passed}
+use Rattle.std.specs.declared.result.Result.TheVariants.{Ok}
+use Rattle.answer.specs.declared.Reason.TheVariants.{VertexBeyond}
 use Rattle.answer.specs.Search.{first_from}
 use Rattle.answer.specs.Chain.{◌then◌}
 use Rattle.answer.proofs.Laws.Chain.{passed, fails_at_passed, then_passed}
@@ -37,7 +38,7 @@ whole n least most =
     )
 
 module _ (limit : ℕ) (vs : List ℤ) where
-  reversed_list : list_check vs ≡ Passed → list_check (reversed_of vs) ≡ Passed
+  reversed_list : list_check vs ≡ Ok tt → list_check (reversed_of vs) ≡ Ok tt
   unfolding list_check
   reversed_list e =
       let l = list_passed {vs = vs} e in
@@ -45,18 +46,18 @@ module _ (limit : ℕ) (vs : List ℤ) where
       rw (reversed_length vs) (whole (vertices_count vs) l.least l.most) in
       rw all
 
-  reversed_beyond : beyond_check limit vs ≡ Passed → beyond_check limit (reversed_of vs) ≡ Passed
+  reversed_beyond : beyond_check limit vs ≡ Ok tt → beyond_check limit (reversed_of vs) ≡ Ok tt
   unfolding beyond_check
   reversed_beyond e =
       let test : ℕ → Bool = λ i. is_beyond limit (vertex_at vs i) in
-      let none = fails_at_passed 11 (first_from test 0 (vertices_count vs)) e in
+      let none = fails_at_passed VertexBeyond (first_from test 0 (vertices_count vs)) e in
       rw (none_first (λ i. is_beyond limit (vertex_at (reversed_of vs) i)) 0 (vertices_count (reversed_of vs))
       (λ i h l.
       let n : i < vertices_count vs = omega (arith, l, reversed_count vs) in
       ap (is_beyond limit) (reversed_vertex vs i (vertices_count vs - suc i) (omega (arith, n)))
       ∙ first_none test 0 (vertices_count vs) (vertices_count vs - suc i) none (omega arith) (omega (arith, n))))
 
-  reversed_circle : (X : Point) → Listed vs → circle_check vs X ≡ Passed → circle_check (reversed_of vs) X ≡ Passed
+  reversed_circle : (X : Point) → Listed vs → circle_check vs X ≡ Ok tt → circle_check (reversed_of vs) X ≡ Ok tt
   unfolding circle_check
   reversed_circle X listed e =
       rw (none_first (λ i. is_zero (sign_of (orientation_of (start_of ws i) (end_of ws i) X))) 0 (vertices_count ws)
@@ -82,8 +83,8 @@ module _ (limit : ℕ) (vs : List ℤ) where
           circle_passed vs X e p.edge (omega (arith, p.below, ring))
           (orientation_swap A B X ∙ ap neg_ℤ (sym back ∙ z)))
 
-module _ (limit : ℕ) (vs : List ℤ) (X : Point) (e : accept_check limit vs X ≡ Passed) where
-  pub reversed_accepted : accept_check limit (reversed_of vs) X ≡ Passed
+module _ (limit : ℕ) (vs : List ℤ) (X : Point) (e : accept_check limit vs X ≡ Ok tt) where
+  pub reversed_accepted : accept_check limit (reversed_of vs) X ≡ Ok tt
   unfolding accept_check
   reversed_accepted =
       let rest = (then_passed (polygon_check limit vs) (reference_check limit X then circle_check vs X) e).1 in
@@ -94,8 +95,8 @@ module _ (limit : ℕ) (vs : List ℤ) (X : Point) (e : accept_check limit vs X 
       ∙ rw (point.0, reversed_circle limit vs X (list_passed {vs = vs} first.0) point.1))
 
 -- And so is a query.
-pub reversed_judged : (limit : ℕ) (vs : List ℤ) (X P : Point) → judge_check limit vs X P ≡ Passed →
-    judge_check limit (reversed_of vs) X P ≡ Passed
+pub reversed_judged : (limit : ℕ) (vs : List ℤ) (X P : Point) → judge_check limit vs X P ≡ Ok tt →
+    judge_check limit (reversed_of vs) X P ≡ Ok tt
 unfolding judge_check
 reversed_judged limit vs X P e =
     let all = then_passed (accept_check limit vs X) (query_check limit P then far_check X P) e in

@@ -1,4 +1,4 @@
--- In the ring nothing but numbers is read where a number stands. Defined, in order: Fit (of bytes, and how long), Ok,
+-- In the ring nothing but numbers is read where a number stands. Defined, in order: Fit (of bytes, and how long), Taken,
 -- Ending, Decimals, Fraction, Wholes, Number. Proved, in order: behind, after-digit (a byte behind a digit);
 -- blank-sound, decimals-sound, point-sound, zero-sound, whole-sound, unsigned-sound, signed-sound, before_sound.
 use mathlib.Core.Path.{◌≡◌, refl, sym, ap, ◌∙◌, subst}
@@ -35,21 +35,21 @@ nought_digit b e = subst (λ (x : ℕ). T (is_digit x)) (sym e) tt
 
 module _ (a : ℕ) (place : Place a) (n : ℕ) where
   -- Read to its end, from the ring's state r on.
-  abbrev pub Ok : ℕ → List ℕ → Type 0
-  Ok r text = Fit n text × T (whole (state a r) text)
+  abbrev pub Taken : ℕ → List ℕ → Type 0
+  Taken r text = Fit n text × T (whole (state a r) text)
 
-  pub no_end : {A : Type 0} (r : ℕ) → Ok r [] → A
+  pub no_end : {A : Type 0} (r : ℕ) → Taken r [] → A
   no_end r g = absurd (subst T place.no_end g.1)
 
   module _ (lat : Bool) where
     -- The byte behind a number, with white space before it.
     abbrev pub Ending : List ℕ → Type 0
-    Ending = SpacedThen (Ok (exit lat)) ((sep lat ∷ []) ∷ [])
+    Ending = SpacedThen (Taken (exit lat)) ((sep lat ∷ []) ∷ [])
 
-    alive : (k b : ℕ) (bs : List ℕ) → k ≤ 15 → Fit n (b ∷ bs) → T (entry a place (st lat k) bs) → Ok (st lat k) bs
+    alive : (k b : ℕ) (bs : List ℕ) → k ≤ 15 → Fit n (b ∷ bs) → T (entry a place (st lat k) bs) → Taken (st lat k) bs
     alive k b bs h f t = (fit_tail n b bs f, alive_entry a place (st lat k) bs (st_low lat k h) t)
 
-    behind : {A : Type 0} (r d p : ℕ) → Row r (end lat d p) → (b : ℕ) (bs : List ℕ) → Ok r (b ∷ bs) →
+    behind : {A : Type 0} (r d p : ℕ) → Row r (end lat d p) → (b : ℕ) (bs : List ℕ) → Taken r (b ∷ bs) →
         (T (is_blank b) → T (entry a place (st lat 15) bs) → A) →
         (b ≡ sep lat → T (entry a place (exit lat) bs) → A) → (T (is_digit b) → T (entry a place d bs) → A) →
         (b ≡ 46 → T (entry a place p bs) → A) → A
@@ -77,7 +77,7 @@ module _ (a : ℕ) (place : Place a) (n : ℕ) where
     at-blank b bs t k =
         (b ∷ k.0, k.1, and_i (is_blank b) (all is_blank k.0) t k.2, ap (λ (l : List ℕ). b ∷ l) k.3, k.4)
 
-    blank-sound : (text : List ℕ) → Ok (st lat 15) text → Ending text
+    blank-sound : (text : List ℕ) → Taken (st lat 15) text → Ending text
     blank-sound [] g = no_end (st lat 15) g
     blank-sound (b ∷ bs) g =
         behind (st lat 15) 30 30 (blank_row lat) b bs g
@@ -85,7 +85,7 @@ module _ (a : ℕ) (place : Place a) (n : ℕ) where
         dead_class
 
     -- Behind a digit: the number's end, a digit more, or the point.
-    after-digit : {A : Type 0} (r d p : ℕ) → Row r (end lat d p) → (b : ℕ) (bs : List ℕ) → Ok r (b ∷ bs) →
+    after-digit : {A : Type 0} (r d p : ℕ) → Row r (end lat d p) → (b : ℕ) (bs : List ℕ) → Taken r (b ∷ bs) →
         (Ending (b ∷ bs) → A) → (T (is_digit b) → T (entry a place d bs) → A) →
         (b ≡ 46 → T (entry a place p bs) → A) → A
     after-digit r d p h b bs g ended digit point =
@@ -114,7 +114,7 @@ module _ (a : ℕ) (place : Place a) (n : ℕ) where
         )
 
     -- At most j more.
-    decimals-sound : (text : List ℕ) (j : ℕ) → j ≤ 6 → Ok (st lat (14 - j)) text → Decimals j text
+    decimals-sound : (text : List ℕ) (j : ℕ) → j ≤ 6 → Taken (st lat (14 - j)) text → Decimals j text
     decimals-sound [] j h g = no_end (st lat (14 - j)) g
     decimals-sound (b ∷ bs) zero h g =
         after-digit (st lat 14) 30 30 (last_row lat) b bs g (no_more 0 (b ∷ bs)) dead_class dead_class
@@ -142,7 +142,7 @@ module _ (a : ℕ) (place : Place a) (n : ℕ) where
           k.5,
         )
 
-    point-sound : (text : List ℕ) → Ok (st lat 7) text → Fraction (46 ∷ text)
+    point-sound : (text : List ℕ) → Taken (st lat 7) text → Fraction (46 ∷ text)
     point-sound [] g = no_end (st lat 7) g
     point-sound (b ∷ bs) g =
         by_class a place (st lat 7) (point_row_lem lat) b bs g.1 dead_class dead_class dead_class dead_class dead_class
@@ -156,7 +156,7 @@ module _ (a : ℕ) (place : Place a) (n : ℕ) where
     pointed-sound b bs f e u =
         subst (λ (x : ℕ). Fraction (x ∷ bs)) (sym e) (point-sound bs (alive 7 b bs (lit≤ tt) f u))
 
-    zero-sound : (text : List ℕ) → Ok (st lat 5) text → Fraction text
+    zero-sound : (text : List ℕ) → Taken (st lat 5) text → Fraction text
     zero-sound [] g = no_end (st lat 5) g
     zero-sound (b ∷ bs) g =
         after-digit (st lat 5) 30 (st lat 7) (zero_row lat) b bs g (none (b ∷ bs)) dead_class
@@ -178,7 +178,7 @@ module _ (a : ℕ) (place : Place a) (n : ℕ) where
     with-digit fit b bs f k =
         (b ∷ k.0, k.1, k.2, f k.0 k.3, k.4, k.5, ap (λ (l : List ℕ). b ∷ l) k.6, k.7)
 
-    whole-sound : (text : List ℕ) → Ok (st lat 6) text → Wholes (all is_digit) text
+    whole-sound : (text : List ℕ) → Taken (st lat 6) text → Wholes (all is_digit) text
     whole-sound [] g = no_end (st lat 6) g
     whole-sound (b ∷ bs) g =
         after-digit (st lat 6) (st lat 6) (st lat 7) (whole_row lat) b bs g (λ k. only (b ∷ bs) (none (b ∷ bs) k))
@@ -200,7 +200,7 @@ module _ (a : ℕ) (place : Place a) (n : ℕ) where
         fit [] v = digit_of_lem b t
         fit (c ∷ cs) v = and_i (leb 49 b && leb b 57) (all is_digit (c ∷ cs)) t v
 
-    signed-sound : (text : List ℕ) → Ok (st lat 4) text → Wholes is_whole text
+    signed-sound : (text : List ℕ) → Taken (st lat 4) text → Wholes is_whole text
     signed-sound [] g = no_end (st lat 4) g
     signed-sound (b ∷ bs) g =
         by_class a place (st lat 4) (signed_row_lem lat) b bs g.1 dead_class dead_class dead_class dead_class dead_class
@@ -236,7 +236,7 @@ module _ (a : ℕ) (place : Place a) (n : ℕ) where
           (b ∷ h.0, h.1, and_i (is_blank b) (all is_blank h.0) t h.2, ap (λ (l : List ℕ). b ∷ l) h.3, h.4),
         )
 
-    pub before_sound : (text : List ℕ) → Ok (st lat 3) text → Number text
+    pub before_sound : (text : List ℕ) → Taken (st lat 3) text → Number text
     before_sound [] g = no_end (st lat 3) g
     before_sound (b ∷ bs) g =
         by_class a place (st lat 3) (before_row_lem lat) b bs g.1

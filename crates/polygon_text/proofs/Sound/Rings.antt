@@ -18,7 +18,7 @@ use Rattle.polygon_text.proofs.Classes.{View}
 use Rattle.polygon_text.proofs.Rows.{Row, row-0, row-1, row-2, Place, dead_class, back, by_class, alive_entry}
 use Rattle.polygon_text.proofs.Complete.Steps.{blank_class}
 use Rattle.polygon_text.proofs.Sound.Literal.{Good}
-use Rattle.polygon_text.proofs.Sound.Numerals.{Fit, fit_tail, Ok, no_end, before_sound}
+use Rattle.polygon_text.proofs.Sound.Numerals.{Fit, fit_tail, Taken, no_end, before_sound}
 
 fit_less : (n b : ℕ) (bs : List ℕ) → Fit (suc n) (b ∷ bs) → Fit n bs
 fit_less n b bs f = record {
@@ -31,11 +31,11 @@ module _ (a : ℕ) (place : Place a) (n : ℕ) where
   abbrev Skipped : ℕ → List ℕ → Type 0
   Skipped r text =
       (blanks : List ℕ) × (b : ℕ) × (bs : List ℕ) × T (all is_blank blanks) × (text ≡ blanks ++ (b ∷ bs))
-      × Ok a place n r (b ∷ bs) × (T (is_blank b) → ⊥)
+      × Taken a place n r (b ∷ bs) × (T (is_blank b) → ⊥)
 
   skip : (r : ℕ) {e0 e2 e3 e4 e5 e6 e7 e8 : ℕ} →
       Row r (e0 ∷ r ∷ e2 ∷ e3 ∷ e4 ∷ e5 ∷ e6 ∷ e7 ∷ e8 ∷ []) → ltb r 29 ≡ true → (text : List ℕ) →
-      Ok a place n r text → Skipped r text
+      Taken a place n r text → Skipped r text
   skip r h l [] g = no_end a place n r g
   skip r h l (b ∷ bs) g = go (is_blank b) refl (λ t. skip r h l bs (fit_tail n b bs g.0, t))
     where
@@ -57,9 +57,9 @@ module _ (a : ℕ) (place : Place a) (n : ℕ) where
   abbrev pub Coordinates : List ℕ → Type 0
   Coordinates text =
       (p : Pair)
-      × SpacedThen (Ok a place n 1) ((spelling p.first ∷ token ",") ++ (spelling p.second ∷ token "]")) text
+      × SpacedThen (Taken a place n 1) ((spelling p.first ∷ token ",") ++ (spelling p.second ∷ token "]")) text
 
-  pub pair_sound : (text : List ℕ) → Ok a place n 3 text → Coordinates text
+  pub pair_sound : (text : List ℕ) → Taken a place n 3 text → Coordinates text
   pair_sound text g =
       let x = before_sound a place n false text g in
       let h = x.1 in
@@ -92,7 +92,7 @@ module _ (a : ℕ) (place : Place a) where
   -- A position from its `[`, and the ring's rest behind it.
   pair_then : (n : ℕ) (text blanks : List ℕ) (b : ℕ) (bs : List ℕ) → T (all is_blank blanks) →
       text ≡ blanks ++ (b ∷ bs) → b ≡ 91 → Fit n (b ∷ bs) → T (whole (state a 3) bs) →
-      ((text : List ℕ) → Ok a place n 1 text → Rest text) → Ring text
+      ((text : List ℕ) → Taken a place n 1 text → Rest text) → Ring text
   pair_then n text blanks b bs u d e f t rest =
       let x = pair_sound a place n bs (fit_tail n b bs f, t) in
       let h = x.1 in
@@ -117,7 +117,7 @@ module _ (a : ℕ) (place : Place a) where
       (blanks, bs, u, d ∙ (λ i. blanks ++ (e i ∷ bs)), ((fit_tail n b bs f).bytes, t))
 
   -- After a comma between two positions.
-  next_sound : (n : ℕ) (text : List ℕ) → Ok a place n 2 text → ((text : List ℕ) → Ok a place n 1 text → Rest text) →
+  next_sound : (n : ℕ) (text : List ℕ) → Taken a place n 2 text → ((text : List ℕ) → Taken a place n 1 text → Rest text) →
       Ring text
   next_sound n text g rest =
       let k = skip a place n 2 row-2 refl text g in
@@ -126,7 +126,7 @@ module _ (a : ℕ) (place : Place a) where
       dead_class dead_class dead_class dead_class dead_class dead_class
 
   -- After a position.
-  tail_sound : (n : ℕ) (text : List ℕ) → Ok a place n 1 text → Rest text
+  tail_sound : (n : ℕ) (text : List ℕ) → Taken a place n 1 text → Rest text
   tail_sound zero [] g = no_end a place 0 1 g
   tail_sound zero (b ∷ bs) g = absurd (none (length bs) g.0.short)
     where

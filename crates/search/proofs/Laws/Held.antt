@@ -1,20 +1,19 @@
--- What a walk that ends at the first edge that holds P says. Proved, in order: held_stop, next_stop (the next such
--- edge); all_edges, tally_none (none holds P); first_held, first_below, first_holds, first_foremost, first_border (the
+-- What a walk that ends at the first edge that holds P says. Proved, in order: next_held, none_held (the next such
+-- edge); all_edges, tally_none, tally_same (none holds P); first_held, first_below, first_holds, first_foremost, first_border (the
 -- first that does); other_foremost, other_none (the first of another class); tally_at, tally_passed (by the first
 -- border edge that does).
 use mathlib.Core.Path.{◌≡◌, refl, sym, ◌∙◌, ap, subst}
 use mathlib.Core.Bool.{Bool, true, false, ◌&&◌, true≢false}
 use mathlib.Core.List.{List}
 use mathlib.Core.Logic.{◌⊎◌, inl, inr, ⊎_elim}
-use Prim.Native.Nat.{ℕ, ◌+◌, ◌-◌, ◌≤◌, ◌<◌}
+use Prim.Native.Nat.{ℕ, ◌-◌, ◌≤◌, ◌<◌}
 use native.Mathlib.Nat.{eq-or-lt_of_le}
 use native.Mathlib.Omega.{arith}
 use borrow.Author.Tests.{ltb-true, ltb-false}
 use lib.Dec.{ltb}
 use lib.IntN.{ℤ}
 use Rattle.sphere.specs.declared.point.Point.{Point}
-use Rattle.answer.specs.declared.Found.{Found}
-use Rattle.answer.specs.declared.Found.TheVariants.{Nothing, At}
+use Rattle.std.specs.declared.option.Option.TheVariants.{None, Some}
 use Rattle.answer.specs.Search.{first_from, count_from, sum_from}
 use Rattle.answer.proofs.Laws.First.{none_first, first_found}
 use Rattle.answer.proofs.Laws.Search.{first_none}
@@ -24,12 +23,11 @@ use Rattle.polygon.specs.Verdict.{is_held_by, is_on_border, is_crossed, way_of, 
 use Rattle.polygon.proofs.Laws.Checks.{OffCircles}
 use Rattle.polygon.proofs.Laws.Directions.{joined_test, joins_test, border_same}
 use Rattle.polygon.proofs.Laws.Joined.{joins_self}
+use Rattle.search.specs.declared.walk.Tally.{Tally}
 use Rattle.search.specs.declared.walk.Tally.TheVariants.{Held, Crossed}
-use Rattle.search.specs.Scan.{stop_of, stop_from}
-use Rattle.search.specs.Walk.{tally_by, tally_on, tally_from, stops_at}
-use Rattle.search.specs.Border.{Foremost, held_or, NextHeld, NextOther}
+use Rattle.search.specs.Walk.{tally_on, tally_from, stops_at}
+use Rattle.search.specs.Border.{Foremost, NoneHeld, HeldAt, OneClass, OtherAt}
 use Rattle.search.proofs.Laws.Coincident.{joins_held}
-use Rattle.search.proofs.Laws.Scanned.{Stopped}
 use Rattle.search.proofs.Laws.Settled.{first_at}
 use Rattle.search.proofs.Laws.Tally.{crossed_parts, held_found}
 
@@ -42,23 +40,27 @@ and-false true = refl
 and-false false = refl
 
 -- ---- the next edge that holds P
-pub held_stop : (test : ℕ → Bool) (vs : List ℤ) (X P : Point) (i last : ℕ) → i ≤ last →
-    held_or (tally_on test vs X P i (last - i)) last ≡ stop_from test i (last - i)
-unfolding stop_from
-held_stop test vs X P i last h = go (first_from test i (last - i)) _ _
-  where
-    go : (found : Found) (c : ℕ) (s : ℤ) → held_or (tally_by found c s) last ≡ stop_of found (i + (last - i))
-    go Nothing c s = omega arith
-    go (At edge) c s = refl
+module _ (vs : List ℤ) (X P : Point) (from : ℕ) (h : from ≤ vertices_count vs) where
+  abbrev walked : Tally
+  walked = tally_on (stops_at vs P true) vs X P from (vertices_count vs - from)
 
-pub next_stop : (vs : List ℤ) (P : Point) {from at : ℕ} → from ≤ vertices_count vs →
-    Stopped (stops_at vs P true) from (vertices_count vs) at → NextHeld vs P from at
-next_stop vs P {from} {at} h s = record {
-  after = s.after;
-  within = omega (arith, s.before, s.after, h);
-  passed = λ j k l. sym (and-true (is_held_by vs P j)) ∙ s.all j k (omega (arith, k, l, s.after));
-  held = λ l. sym (and-true (is_held_by vs P at)) ∙ s.hit l;
-}
+  pub next_held : {edge : ℕ} → walked ≡ Held edge → HeldAt vs P from edge
+  next_held {edge} e =
+      let k = vertices_count vs - from in
+      let found = first_found (stops_at vs P true) from k edge
+      (held_found _ (count_from (is_crossed vs X P) from k) (sum_from (way_of vs X P) from k) e) in
+      record {
+        after = found.from;
+        before = omega (arith, found.below, h);
+        passed = λ j l m. sym (and-true (is_held_by vs P j)) ∙ found.before j l m;
+        held = sym (and-true (is_held_by vs P edge)) ∙ found.holds;
+      }
+
+  pub none_held : {c : ℕ} {s : ℤ} → walked ≡ Crossed c s → NoneHeld vs P from (vertices_count vs)
+  none_held e j l m =
+      let k = vertices_count vs - from in
+      let parts = crossed_parts _ (count_from (is_crossed vs X P) from k) (sum_from (way_of vs X P) from k) e in
+      sym (and-true (is_held_by vs P j)) ∙ first_none (stops_at vs P true) from k j parts.none l (omega (arith, m))
 
 -- ---- all edges
 all_left : (n : ℕ) → n - 0 ≡ n
@@ -84,17 +86,23 @@ module _ (vs : List ℤ) (X P : Point) where
   unfolding tally_from
   tally_none e =
       let parts = crossed_parts _ (count_from (is_crossed vs X P) 0 n) (sum_from (way_of vs X P) 0 n) e in
-      let free : first_from (is_on_border vs P) 0 n ≡ Nothing = none_first (is_on_border vs P) 0 n (λ j h l.
+      let free : first_from (is_on_border vs P) 0 n ≡ None = none_first (is_on_border vs P) 0 n (λ j h l.
       ap (λ b. b && is_border vs j) (sym (and-true (is_held_by vs P j))
       ∙ first_none (stops_at vs P true) 0 n j parts.none h l)) in
       rw (free, parts.count, parts.total)
 
+  -- and where no edge does, of what the walk said
+  pub tally_same : {t : Tally} → tally_on (stops_at vs P true) vs X P 0 n ≡ t → ((edge : ℕ) → t ≡ Held edge → ⊥) →
+      t ≡ tally_from vs X P 0 n
+  tally_same {t = Held edge} e none = absurd (none edge refl)
+  tally_same {t = Crossed c s} e none = sym (tally_none e)
+
   pub first_held : {edge : ℕ} → tally_on (stops_at vs P true) vs X P 0 n ≡ Held edge →
-      first_from (stops_at vs P true) 0 n ≡ At edge
+      first_from (stops_at vs P true) 0 n ≡ Some edge
   first_held e = held_found _ (count_from (is_crossed vs X P) 0 n) (sum_from (way_of vs X P) 0 n) e
 
   -- ---- the first edge that holds P
-  module _ {edge : ℕ} (first : first_from (stops_at vs P true) 0 n ≡ At edge) where
+  module _ {edge : ℕ} (first : first_from (stops_at vs P true) 0 n ≡ Some edge) where
     pub first_below : edge < n
     first_below = omega (arith, (first_found (stops_at vs P true) 0 n edge first).below)
 
@@ -124,7 +132,7 @@ module _ (vs : List ℤ) (X P : Point) where
         rw found
 
     -- ---- the first of another class, where the first is no border
-    module _ (off : OffCircles vs X) {at : ℕ} (o : NextOther vs P edge at) where
+    module _ (off : OffCircles vs X) {at : ℕ} (passed : OneClass vs P edge at) where
       abbrev own : ℕ → Bool
       own = is_coincident vs (start_of vs edge) (end_of vs edge)
 
@@ -133,26 +141,26 @@ module _ (vs : List ℤ) (X P : Point) where
           (λ early. absurd (true≢false (sym held ∙ before j early)))
           (λ rest. ⊎_elim
           (λ e. subst (λ k. own k ≡ true) e (joins_self (start_of vs edge) (end_of vs edge) X (off edge first_below)))
-          (λ later. o.passed j later l held) (eq-or-lt_of_le rest))
+          (λ later. passed j later l held) (eq-or-lt_of_le rest))
           (split j edge)
 
-      pub other_foremost : at < n → Foremost vs at
-      other_foremost h = record { none = λ j l. go j l (is_coincident vs (start_of vs at) (end_of vs at) j) refl }
+      pub other_foremost : OtherAt vs P edge at → Foremost vs at
+      other_foremost o = record { none = λ j l. go j l (is_coincident vs (start_of vs at) (end_of vs at) j) refl }
         where
           go : (j : ℕ) → j < at → (t : Bool) → is_coincident vs (start_of vs at) (end_of vs at) j ≡ t →
               is_coincident vs (start_of vs at) (end_of vs at) j ≡ false
           go j l false e = e
           go j l true e =
               let held : is_held_by vs P j ≡ true =
-              sym (joins_held (start_of vs at) (end_of vs at) (start_of vs j) (end_of vs j) X P (off at h)
-              (off j (omega (arith, l, h))) (rw e tt)) ∙ o.held h in
+              sym (joins_held (start_of vs at) (end_of vs at) (start_of vs j) (end_of vs j) X P (off at o.before)
+              (off j (omega (arith, l, o.before))) (rw e tt)) ∙ o.held in
               absurd (true≢false (sym (same j l held)
               ∙ sym (joined_test (joins_of (start_of vs edge) (end_of vs edge))
               (joins_test (start_of vs edge) (end_of vs edge))
               (start_of vs at) (end_of vs at) (start_of vs j) (end_of vs j) e)
-              ∙ o.other h))
+              ∙ o.other))
 
-      pub other_none : is_border vs edge ≡ false → first_from (is_on_border vs P) 0 at ≡ Nothing
+      pub other_none : is_border vs edge ≡ false → first_from (is_on_border vs P) 0 at ≡ None
       other_none none = none_first (is_on_border vs P) 0 at (λ j h l. go j (omega (arith, l)) (is_held_by vs P j) refl)
         where
           go : (j : ℕ) → j < at → (t : Bool) → is_held_by vs P j ≡ t → (is_held_by vs P j && is_border vs j) ≡ false
@@ -160,14 +168,14 @@ module _ (vs : List ℤ) (X P : Point) where
           go j l true e = ap (λ b. b && is_border vs j) e ∙ border_same vs edge j (same j l e) ∙ none
 
   -- ---- by the first border edge that does
-  pub tally_at : {edge : ℕ} → boundary_of vs P ≡ At edge → tally_from vs X P 0 n ≡ Held edge
+  pub tally_at : {edge : ℕ} → boundary_of vs P ≡ Some edge → tally_from vs X P 0 n ≡ Held edge
   unfolding tally_from boundary_of
   tally_at e = rw e
 
-  pub tally_passed : boundary_of vs P ≡ Nothing →
+  pub tally_passed : boundary_of vs P ≡ None →
       tally_on (stops_at vs P false) vs X P 0 n ≡ tally_from vs X P 0 n
   unfolding tally_from boundary_of
   tally_passed e =
-      let free : first_from (stops_at vs P false) 0 n ≡ Nothing =
+      let free : first_from (stops_at vs P false) 0 n ≡ None =
       none_first (stops_at vs P false) 0 n (λ j h l. and-false (is_held_by vs P j)) in
       rw (free, e)

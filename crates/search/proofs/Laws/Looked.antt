@@ -9,8 +9,8 @@ use native.Mathlib.Omega.{arith}
 use lib.IntN.{ℤ}
 use Rattle.sphere.specs.declared.point.Point.{Point}
 use Rattle.sphere.specs.Orientation.{cross_of}
-use Rattle.answer.specs.declared.Found.{Found}
-use Rattle.answer.specs.declared.Found.TheVariants.{Nothing, At}
+use Rattle.std.specs.declared.option.Option.{Option}
+use Rattle.std.specs.declared.option.Option.TheVariants.{None, Some}
 use Rattle.answer.specs.Search.{first_from, count_from}
 use Rattle.polygon.specs.Vertices.{vertices_count}
 use Rattle.polygon.specs.Verdict.{is_on_border}
@@ -22,9 +22,9 @@ use Rattle.search.specs.Walk.{tally_by, tally_from, is_looked, reach, looked_fro
 use Rattle.search.proofs.Laws.Runs.{run_of}
 
 -- ---- by the definition
-reach_bound : (found : Found) (i k : ℕ) → ((edge : ℕ) → found ≡ At edge → edge < i + k) → reach found i k ≤ k
-reach_bound Nothing i k h = omega arith
-reach_bound (At edge) i k h = omega (arith, h edge refl)
+reach_bound : (found : Option ℕ) (i k : ℕ) → ((edge : ℕ) → found ≡ Some edge → edge < i + k) → reach found i k ≤ k
+reach_bound None i k h = omega arith
+reach_bound (Some edge) i k h = omega (arith, h edge refl)
 
 module _ (vs : List ℤ) (X P : Point) where
   pub reach_within : (i k : ℕ) → reach (first_from (is_on_border vs P) i k) i k ≤ k
@@ -40,17 +40,17 @@ module _ (vs : List ℤ) (X P : Point) where
   unfolding tally_from
   reach_tally n = go (first_from (is_on_border vs P) 0 n) _ _
     where
-      go : (found : Found) (c : ℕ) (s : ℤ) → reach_of (tally_by found c s) n ≡ reach found 0 n
-      go Nothing c s = refl
-      go (At edge) c s = omega arith
+      go : (found : Option ℕ) (c : ℕ) (s : ℤ) → reach_of (tally_by found c s) n ≡ reach found 0 n
+      go None c s = refl
+      go (Some edge) c s = omega arith
 
   pub tally_among : (n : ℕ) → Among (tally_from vs X P 0 n) n
   unfolding tally_from
   tally_among n = go (first_from (is_on_border vs P) 0 n) _ _ refl
     where
-      go : (found : Found) (c : ℕ) (s : ℤ) → first_from (is_on_border vs P) 0 n ≡ found → Among (tally_by found c s) n
-      go Nothing c s e = tt
-      go (At edge) c s e = omega (arith, (first_found (is_on_border vs P) 0 n edge e).below)
+      go : (found : Option ℕ) (c : ℕ) (s : ℤ) → first_from (is_on_border vs P) 0 n ≡ found → Among (tally_by found c s) n
+      go None c s e = tt
+      go (Some edge) c s e = omega (arith, (first_found (is_on_border vs P) 0 n edge e).below)
 
 -- ---- by the boxes
 count_same : (f g : ℕ → Bool) (i k : ℕ) → Each (λ j. f j ≡ g j) i k → count_from f i k ≡ count_from g i k

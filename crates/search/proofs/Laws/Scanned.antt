@@ -13,8 +13,8 @@ use mir.ValLaws.{to_z-of_z}
 use Rattle.integers.specs.Sign.{negative, positive, sign_of}
 use Rattle.sphere.specs.declared.point.Point.{Point}
 use Rattle.sphere.specs.Orientation.{dot_of}
-use Rattle.answer.specs.declared.Found.{Found}
-use Rattle.answer.specs.declared.Found.TheVariants.{Nothing, At}
+use Rattle.std.specs.declared.option.Option.{Option}
+use Rattle.std.specs.declared.option.Option.TheVariants.{None, Some}
 use Rattle.answer.specs.Search.{first_from}
 use Rattle.polygon.specs.Vertices.{vertex_at}
 use Rattle.answer.proofs.Laws.First.{Each, first_found}
@@ -47,7 +47,7 @@ module _ {test : ℕ → Bool} {i last : ℕ} where
     unfolding stop_from first_from
     scan_hit l e =
         let more : last - i ≡ (at - i) + suc (last - (at + 1)) = omega (arith, s.after, l) in
-        let hit : first_from test i ((at - i) + suc (last - (at + 1))) ≡ At at =
+        let hit : first_from test i ((at - i) + suc (last - (at + 1))) ≡ Some at =
         first_pass test i (at - i) (suc (last - (at + 1))) s.none ∙ rw (here, e) in
         rw (more, hit)
 
@@ -68,14 +68,14 @@ pub stopped : (test : ℕ → Bool) (i last : ℕ) {at : ℕ} → at ≡ stop_fr
 unfolding stop_from
 stopped test i last e = subst (Stopped test i last) (sym e) (go (first_from test i (last - i)) refl)
   where
-    go : (found : Found) → first_from test i (last - i) ≡ found → Stopped test i last (stop_of found (i + (last - i)))
-    go Nothing e = record {
+    go : (found : Option ℕ) → first_from test i (last - i) ≡ found → Stopped test i last (stop_of found (i + (last - i)))
+    go None e = record {
       after = omega arith;
       before = omega arith;
       all = λ j h l. first_none test i (last - i) j e h (omega (arith, l));
       hit = λ l. absurd (omega (arith, l));
     }
-    go (At edge) e =
+    go (Some edge) e =
         let found = first_found test i (last - i) edge e in
         record {
           after = found.from;

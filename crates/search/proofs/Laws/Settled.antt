@@ -1,6 +1,6 @@
 -- The edges that hold P, one by one, and which of them are border (document 02, P3). Proved, in order:
 -- class_border, class_marked (a class, from its first edge on); settled_start, settled_past, settled_foremost,
--- settled_marked, settled_class (as a loop goes); settled_none, first_at (what it finds).
+-- settled_class (as a loop goes); settled_none, first_at (what it finds).
 use mathlib.Core.Path.{◌≡◌, refl, sym, ◌∙◌, ap, ap₂, subst}
 use mathlib.Core.Bool.{Bool, true, false, ◌&&◌, cond, true≢false}
 use mathlib.Core.List.{List}
@@ -11,7 +11,7 @@ use lib.Dec.{eqb, ltb}
 use lib.IntN.{ℤ}
 use lib.ListN.{length, get_or}
 use Rattle.sphere.specs.declared.point.Point.{Point}
-use Rattle.answer.specs.declared.Found.TheVariants.{Nothing, At}
+use Rattle.std.specs.declared.option.Option.TheVariants.{None, Some}
 use Rattle.answer.specs.Search.{first_from, count_from}
 use Rattle.answer.proofs.Laws.Blocks.{first_pass, count_append, count_none}
 use Rattle.answer.proofs.Laws.First.{none_first}
@@ -23,7 +23,7 @@ use Rattle.polygon.proofs.Laws.Directions.{joined_test, joins_test, border_same}
 use Rattle.polygon.proofs.Laws.Joined.{joins_self}
 use Rattle.corridors.specs.Marked.{Marked}
 use Rattle.search.specs.Walk.{NoneBefore}
-use Rattle.search.specs.Border.{Foremost, ClassMarked, NextHeld, Settled}
+use Rattle.search.specs.Border.{Foremost, ClassMarked, NoneHeld, Settled}
 use Rattle.search.proofs.Laws.Coincident.{joins_held}
 
 -- ---- a class, from its first edge on
@@ -70,8 +70,8 @@ module _ {vs : List ℤ} {P : Point} where
   }
 
   module _ {i : ℕ} {marks : List ℕ} (s : Settled vs P i marks) where
-    pub settled_past : {at : ℕ} → NextHeld vs P i at → Settled vs P at marks
-    settled_past {at} n = record {
+    pub settled_past : (at : ℕ) → NoneHeld vs P i at → Settled vs P at marks
+    settled_past at none = record {
       room = s.room;
       held = λ j h e. go (ltb j i) refl h e;
       unbordered = s.unbordered;
@@ -80,20 +80,7 @@ module _ {vs : List ℤ} {P : Point} where
       where
         go : (t : Bool) {j : ℕ} → ltb j i ≡ t → j < at → is_held_by vs P j ≡ true → get_or marks j 0 ≡ 1
         go true {j} t h e = s.held j (ltb-true j i t) e
-        go false {j} t h e = absurd (true≢false (sym e ∙ n.passed j (ltb-false j i t) h))
-
-    -- one that is marked
-    pub settled_marked : get_or marks i 0 ≡ 1 → Settled vs P (i + 1) marks
-    settled_marked own = record {
-      room = s.room;
-      held = λ j h e. go (ltb j i) refl h e;
-      unbordered = s.unbordered;
-      alike = s.alike;
-    }
-      where
-        go : (t : Bool) {j : ℕ} → ltb j i ≡ t → j < i + 1 → is_held_by vs P j ≡ true → get_or marks j 0 ≡ 1
-        go true {j} t h e = s.held j (ltb-true j i t) e
-        go false {j} t h e = let same : j ≡ i = omega (arith, ltb-false j i t, h) in rw same own
+        go false {j} t h e = absurd (true≢false (sym e ∙ none j (ltb-false j i t) h))
 
     pub settled_none : i ≤ vertices_count vs → NoneBefore vs P i
     settled_none h = none_first (is_on_border vs P) 0 i (λ j k l. go (is_held_by vs P j) refl l)
@@ -150,11 +137,11 @@ module _ {vs : List ℤ} {P : Point} where
               s.unbordered j l (sym (at j l ∙ ap (λ t. cond t 1 (get_or marks j 0)) t) ∙ e)
 
 -- ---- what it finds
-pub first_at : (test : ℕ → Bool) (edge n : ℕ) → first_from test 0 edge ≡ Nothing → edge < n → test edge ≡ true →
-    first_from test 0 n ≡ At edge
+pub first_at : (test : ℕ → Bool) (edge n : ℕ) → first_from test 0 edge ≡ None → edge < n → test edge ≡ true →
+    first_from test 0 n ≡ Some edge
 unfolding first_from
 first_at test edge n none h e =
     let whole : edge + suc (n - (edge + 1)) ≡ n = omega arith in
     let here : 0 + edge ≡ edge = omega arith in
-    subst (λ k. first_from test 0 k ≡ At edge) whole
+    subst (λ k. first_from test 0 k ≡ Some edge) whole
     (first_pass test 0 edge (suc (n - (edge + 1))) none ∙ rw (here, e))

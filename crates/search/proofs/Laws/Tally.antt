@@ -16,8 +16,8 @@ use Rattle.integers.proofs.Size.{Is, fits, kept}
 use Rattle.integers.specs.Sign.{Sign, negative, nought, positive, sign_of, is_zero, unit_of}
 use Rattle.sphere.specs.declared.point.Point.{Point}
 use Rattle.sphere.specs.Crossing.{crossing_of}
-use Rattle.answer.specs.declared.Found.{Found}
-use Rattle.answer.specs.declared.Found.TheVariants.{Nothing, At}
+use Rattle.std.specs.declared.option.Option.{Option}
+use Rattle.std.specs.declared.option.Option.TheVariants.{None, Some}
 use Rattle.answer.specs.Search.{first_from, count_from, sum_from}
 use Rattle.polygon.specs.Vertices.{start_of, end_of}
 use Rattle.polygon.specs.Verdict.{is_on_border, is_crossed, way_of}
@@ -28,26 +28,26 @@ use Rattle.search.specs.declared.walk.Tally.TheVariants.{Held, Crossed}
 use Rattle.search.specs.Walk.{test_by, tally_by, tally_on, tally_from, NoneBefore}
 
 -- ---- a tally's parts
-pub record Parts (found : Found) (c : ℕ) (s : ℤ) (crossed : ℕ) (sum : ℤ) : Type 0 where
-  pub none : found ≡ Nothing
+pub record Parts (found : Option ℕ) (c : ℕ) (s : ℤ) (crossed : ℕ) (sum : ℤ) : Type 0 where
+  pub none : found ≡ None
   pub count : c ≡ crossed
   pub total : s ≡ sum
 
 one_is_not_none : {A : Type 0} → ◌≡◌ {A = ℕ} 0 1 → A
 one_is_not_none z = absurd (omega arith)
 
-pub crossed_parts : (found : Found) (c : ℕ) (s : ℤ) {crossed : ℕ} {sum : ℤ} →
+pub crossed_parts : (found : Option ℕ) (c : ℕ) (s : ℤ) {crossed : ℕ} {sum : ℤ} →
     tally_by found c s ≡ Crossed crossed sum → Parts found c s crossed sum
-crossed_parts Nothing c s e = record { none = refl; count = cc; total = cc }
-crossed_parts (At edge) c s e = one_is_not_none cc
+crossed_parts None c s e = record { none = refl; count = cc; total = cc }
+crossed_parts (Some edge) c s e = one_is_not_none cc
 
-pub held_found : (found : Found) (c : ℕ) (s : ℤ) {edge : ℕ} → tally_by found c s ≡ Held edge → found ≡ At edge
-held_found Nothing c s e = one_is_not_none cc
-held_found (At place) c s {edge} e = let same : place ≡ edge = cc in ap At same
+pub held_found : (found : Option ℕ) (c : ℕ) (s : ℤ) {edge : ℕ} → tally_by found c s ≡ Held edge → found ≡ Some edge
+held_found None c s e = one_is_not_none cc
+held_found (Some place) c s {edge} e = let same : place ≡ edge = cc in ap Some same
 
 -- ---- from `from` on, before edge i
 pub record TalliedOn (test : ℕ → Bool) (vs : List ℤ) (X P : Point) (from i crossed : ℕ) (sum : ℤ) : Type 0 where
-  pub none : first_from test from (i - from) ≡ Nothing
+  pub none : first_from test from (i - from) ≡ None
   pub count : count_from (is_crossed vs X P) from (i - from) ≡ crossed
   pub total : sum_from (way_of vs X P) from (i - from) ≡ sum
 
@@ -95,7 +95,7 @@ module _ {test : ℕ → Bool} {vs : List ℤ} {X P : Point} where
         tally_on test vs X P from (to - from) ≡ Held edge
     on_held to {edge} l e =
         let found = held_found (first_from test i k) _ _ e in
-        let all : first_from test from (to - from) ≡ At edge =
+        let all : first_from test from (to - from) ≡ Some edge =
         rw (rest from i k to h l) (first_pass test from (i - from) (k + (to - (i + k))) t.none
         ∙ rw (here from i h) (first_keep test i k (to - (i + k)) edge found)) in
         rw all
@@ -117,7 +117,7 @@ module _ (test : ℕ → Bool) (vs : List ℤ) (X P : Point) (i : ℕ) where
   one_held e = go (test i) e
     where
       go : (t : Bool) → test_by t (way_of vs X P i) ≡ OnBorder →
-          tally_by (cond t (At i) Nothing) (count_from (is_crossed vs X P) i 1) (sum_from (way_of vs X P) i 1) ≡ Held i
+          tally_by (cond t (Some i) None) (count_from (is_crossed vs X P) i 1) (sum_from (way_of vs X P) i 1) ≡ Held i
       go true e = refl
       go false e = one_is_not_none cc
 
@@ -131,7 +131,7 @@ module _ (test : ℕ → Bool) (vs : List ℤ) (X P : Point) (i : ℕ) where
       crossing = crossing_of X P (start_of vs i) (end_of vs i)
 
       go : (t : Bool) → test_by t (way_of vs X P i) ≡ Way way →
-          tally_by (cond t (At i) Nothing) (cond (is_crossed vs X P i) 1 0) (way_of vs X P i +ℤ pos 0) ≡ Crossed c way
+          tally_by (cond t (Some i) None) (cond (is_crossed vs X P i) 1 0) (way_of vs X P i +ℤ pos 0) ≡ Crossed c way
       go true e = one_is_not_none cc
       go false e =
           let same : way_of vs X P i ≡ way = cc in

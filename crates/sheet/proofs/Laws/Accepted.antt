@@ -15,10 +15,10 @@ use Rattle.sphere.specs.declared.point.Grid.{Grid}
 use Rattle.sphere.specs.declared.point.Grid.TheVariants.{Coarse, Fine}
 use Rattle.sphere.specs.Point.{limit_of, Fits, Within, is_null}
 use Rattle.sphere.proofs.Laws.Orientation.{null→origin}
-use Rattle.answer.specs.declared.Check.TheVariants.{Passed}
 use Rattle.polygon.specs.Vertices.{vertices_count, vertex_at}
 use Rattle.polygon.specs.Checks.{list_check, accept_check}
 use Rattle.polygon.specs.Pair.{optional_check}
+use Rattle.std.specs.declared.result.Result.TheVariants.{Ok}
 use Rattle.answer.proofs.Laws.Chain.{both_true}
 use Rattle.polygon.proofs.Laws.Checks.{list_holds, list_passed, accept_polygon, polygon_first, accept_passed}
 use Rattle.polygon.proofs.Laws.Pair.{optional_second}
@@ -29,14 +29,14 @@ pub record Whole (vs : List ℤ) : Type 0 where
   pub least : 3 ≤ length vs / 3
   pub most : length vs / 3 ≤ 4096
 
-pub whole_passed : (vs : List ℤ) → Whole vs → list_check vs ≡ Passed
+pub whole_passed : (vs : List ℤ) → Whole vs → list_check vs ≡ Ok tt
 unfolding list_check
 whole_passed vs l =
     let n = length vs / 3 in
     rw (eq-eqb (length vs % 3) 0 l.threes, le-leb 3 n l.least, le-leb n 4096 l.most)
 
-module _ (limit : ℕ) (vs : List ℤ) (X : Point) (ok : accept_check limit vs X ≡ Passed) where
-  pub list_check_lem : list_check vs ≡ Passed
+module _ (limit : ℕ) (vs : List ℤ) (X : Point) (ok : accept_check limit vs X ≡ Ok tt) where
+  pub list_check_lem : list_check vs ≡ Ok tt
   list_check_lem = (polygon_first limit vs (accept_polygon limit vs X ok)).0
 
   pub accepted_list : Whole vs
@@ -80,7 +80,7 @@ nought : Fits 2147483647 (pos 0)
 nought = record { within = zero-le }
 
 -- ---- a second point, or none
-module _ (g : Grid) (vs : List ℤ) (X Y : Point) (ok : optional_check (limit_of g) vs X Y ≡ Passed) where
+module _ (g : Grid) (vs : List ℤ) (X Y : Point) (ok : optional_check (limit_of g) vs X Y ≡ Ok tt) where
   pub optional_small : Within 2147483647 Y
   optional_small = go (is_null Y) refl
     where

@@ -12,11 +12,11 @@ use lib.Seq.{drop-cons, drop-drop, drop_at}
 use Rattle.big_endian.specs.Bytes.{byte_at, short_at, short_bytes, AreBytes}
 use Rattle.big_endian.proofs.Laws.Written.{first_written, short_written}
 use Rattle.big_endian.proofs.Laws.Kept.{short_kept}
-use Rattle.answer.specs.declared.Check.TheVariants.{Passed}
 use Rattle.fields.specs.Fields.{field_end, field_check}
 use Rattle.sheet.specs.Write.{field_bytes}
 use Rattle.fields.proofs.Laws.Fields.{field_passed}
 use Rattle.sheet.proofs.Laws.Stores.{field_bytes-length}
+use Rattle.std.specs.declared.result.Result.TheVariants.{Ok}
 
 -- A field that stands at `at`, with `rest` after it.
 module _ (b : List ℕ) (at tag : ℕ) (body rest : List ℕ) (stands : drop at b ≡ field_bytes tag body ++ rest) where
@@ -49,7 +49,7 @@ module _ (b : List ℕ) (at tag : ℕ) (body rest : List ℕ) (stands : drop at 
 
   pub field_written :
       (isLength : ℕ → Bool) → length body < 65536 → isLength (length body) ≡ true →
-      field_check tag isLength b at ≡ Passed
+      field_check tag isLength b at ≡ Ok tt
   unfolding field_end
   field_written isLength h ok =
       let n = length_written h in

@@ -10,7 +10,6 @@ use Rattle.big_endian.specs.Bytes.{short_at, word_bytes, ints_bytes, numbers_of,
 use Rattle.big_endian.proofs.Laws.Rows.{ints_at-length}
 use Rattle.big_endian.proofs.Laws.Stores.{ints_bytes-length}
 use Rattle.big_endian.proofs.Laws.Kept.{word_kept, ints_kept, point_kept}
-use Rattle.answer.specs.declared.Check.TheVariants.{Passed}
 use Rattle.fields.specs.Fields.{charset_start, name_start, known_start, vertices_start, grid_of, tag_of, second_start}
 use Rattle.fields.specs.Fields.{five_fields}
 use Rattle.sheet.specs.Sheet.{zone_of, charset_of, name_at, name_length, name_of, known_of, vertex_count_of, vertices_of}
@@ -19,8 +18,9 @@ use Rattle.sheet.specs.Write.{field_bytes, second_bytes, sheet_bytes}
 use Rattle.fields.proofs.Laws.Fields.{passed_field, passed_fields, passed_spans, allowed_bounds, charset_field}
 use Rattle.sheet.proofs.Laws.Stores.{word_bytes_length}
 use Rattle.sheet.proofs.Laws.Bodies.{field_kept}
+use Rattle.std.specs.declared.result.Result.TheVariants.{Ok}
 
-module _ (b : List ℕ) (sound : five_fields b ≡ Passed) where
+module _ (b : List ℕ) (sound : five_fields b ≡ Ok tt) where
   pub name_of_length : length (name_of b) ≡ name_length b
   name_of_length =
       let s = passed_spans b sound in

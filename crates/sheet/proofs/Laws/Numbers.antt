@@ -14,12 +14,13 @@ use Rattle.sphere.specs.declared.point.GridPoint.{GridPoint}
 use Rattle.sphere.specs.Point.{limit_of}
 use Rattle.big_endian.specs.Bytes.{byte_at, short_at}
 use Rattle.big_endian.proofs.Laws.Rows.{ints_at-length}
-use Rattle.answer.specs.declared.Check.TheVariants.{Passed}
 use Rattle.polygon.specs.Checks.{list_check}
 use Rattle.polygon.specs.Grids.{is_mixed, grid_check, grid_of_second}
 use Rattle.fields.specs.Fields.{is_allowed, is_charset, field_end, field_check, known_start, vertices_start, grid_of, tag_of}
 use Rattle.fields.specs.Fields.{second_start, has_second_point, sheet_end, charset_check, five_fields, second_field, sheet_fields}
 use Rattle.fields.specs.Fields.{rest_check, fields_check}
+use Rattle.std.specs.declared.result.Result.TheVariants.{Ok}
+use Rattle.answer.specs.declared.Reason.TheVariants.{Charset, FieldCut, FieldLength, FieldTag, OtherGrid, SheetRoom, TrailingBytes}
 use Rattle.answer.proofs.Laws.Numbers.{Numbered, passed_numbered, then_numbered, ◌both◌, here_numbered, if_numbered}
 use Rattle.answer.proofs.Laws.Numbers.{where_numbered}
 use Rattle.polygon.proofs.Laws.Numbers.{list_numbered, second_numbered, accept_numbered}
@@ -39,25 +40,25 @@ module _ {Is : ℕ → Type 0} (h : (n : ℕ) → 19 < n → n < 25 → Is n) wh
   field_numbered : (tag : ℕ) (isLength : ℕ → Bool) (b : List ℕ) (at : ℕ) → Numbered Is (field_check tag isLength b at)
   unfolding field_check
   field_numbered tag isLength b at =
-      here_numbered 20 at (ltb (length b) (at + 3)) (h 20 (lit< tt) (lit< tt))
-      both here_numbered 21 at (not (eqb (byte_at b at) tag)) (h 21 (lit< tt) (lit< tt))
-      both here_numbered 22 at (not (isLength (short_at b (at + 1)))) (h 22 (lit< tt) (lit< tt))
-      both here_numbered 20 at (ltb (length b) (field_end b at)) (h 20 (lit< tt) (lit< tt))
+      here_numbered FieldCut at (ltb (length b) (at + 3)) (h 20 (lit< tt) (lit< tt))
+      both here_numbered FieldTag at (not (eqb (byte_at b at) tag)) (h 21 (lit< tt) (lit< tt))
+      both here_numbered FieldLength at (not (isLength (short_at b (at + 1)))) (h 22 (lit< tt) (lit< tt))
+      both here_numbered FieldCut at (ltb (length b) (field_end b at)) (h 20 (lit< tt) (lit< tt))
 
   fields_numbered : (b : List ℕ) → Numbered Is (fields_check b)
   unfolding fields_check sheet_fields five_fields charset_check second_field rest_check
   fields_numbered b =
       ((field_numbered 1 (is_allowed 4 4 1) b 0
       both (field_numbered 2 (is_allowed 1 1 1) b 7
-      both here_numbered 23 7 (not (is_charset (byte_at b 10))) (h 23 (lit< tt) (lit< tt)))
+      both here_numbered Charset 7 (not (is_charset (byte_at b 10))) (h 23 (lit< tt) (lit< tt)))
       both field_numbered 3 (is_allowed 1 120 1) b 11
       both field_numbered 4 (is_allowed 12 12 1) b (known_start b)
       both field_numbered (tag_of (grid_of b)) (is_allowed 36 49152 12) b (vertices_start b))
       both where_numbered (has_second_point b) (field_numbered 6 (is_allowed 12 12 1) b (second_start b)))
-      both here_numbered 24 (sheet_end b) (ltb (sheet_end b) (length b)) (h 24 (lit< tt) (lit< tt))
+      both here_numbered TrailingBytes (sheet_end b) (ltb (sheet_end b) (length b)) (h 24 (lit< tt) (lit< tt))
 
 -- ---- reading and writing
-list_numbered_none : {Is : ℕ → Type 0} (b : List ℕ) → fields_check b ≡ Passed → Numbered Is (list_check (vertices_of b))
+list_numbered_none : {Is : ℕ → Type 0} (b : List ℕ) → fields_check b ≡ Ok tt → Numbered Is (list_check (vertices_of b))
 list_numbered_none b e =
     let s = passed_spans b (fields_five b e) in
     let n = ints_at-length b (vertices_start b + 3) (vertex_count_of b * 3) in
@@ -86,9 +87,9 @@ unfolding write_check input_check grid_check
 above_write charset name known g vertices second room =
     let n = bytes_needed name vertices second.point in
     let list = list_numbered (Above 9) (limit_of g) vertices (lit< tt) in
-    (if_numbered 23 (not (is_charset charset)) (lit< tt)
-    both if_numbered 22 (not (is_allowed 1 120 1 (length name))) (lit< tt)
-    both (list both if_numbered 28 (is_mixed g (known.grid ∷ grid_of_second g second ∷ [])) (lit< tt))
+    (if_numbered Charset (not (is_charset charset)) (lit< tt)
+    both if_numbered FieldLength (not (is_allowed 1 120 1 (length name))) (lit< tt)
+    both (list both if_numbered OtherGrid (is_mixed g (known.grid ∷ grid_of_second g second ∷ [])) (lit< tt))
     both optional_numbered (Above 9) (limit_of g) vertices list (λ k l m. omega (arith, l)) known.point (lit< tt)
     second.point)
-    both here_numbered 25 n (ltb room n) (lit< tt)
+    both here_numbered SheetRoom n (ltb room n) (lit< tt)

@@ -1,20 +1,20 @@
 -- What reading hands back and leaves, case by case. Proved, in order: fields_sound, fields_five, plain_passed,
--- plain_five, plain_unsound, plain_polygon; second_absent, second_present; sheet_plain, sheet_fields_lem, sheet_five,
--- sheet_accepted, sheet_optional, sheet_failed, sheet_second; read_refused, read_accepted; loaded_by, decoded_by,
--- loaded_row, loaded_room; opened_check, opened_passed, opened_refused, opened_row, opened_room.
-use mathlib.Core.Path.{◌≡◌, refl, sym, ap, ap₂, ◌∙◌}
+-- plain_five, plain_polygon; second_absent, second_present; sheet_second, sheet_plain, sheet_fields_lem, sheet_sound,
+-- sheet_five, sheet_accepted, sheet_optional; read_refused, read_accepted; decoded_by, loaded_row, loaded_room; taken.
+use mathlib.Core.Path.{◌≡◌, refl, sym, ap, ◌∙◌}
 use mathlib.Core.Bool.{Bool, true, false, cond}
 use mathlib.Core.List.{List, ◌++◌}
 use Prim.Native.Nat.{ℕ, ◌+◌, ◌*◌, ◌≤◌}
 use native.Mathlib.Omega.{arith}
 use lib.IntN.{ℤ}
 use lib.ListN.{length, take, length-append}
-use lib.Seq.{take_at}
+use lib.Seq.{take_at, length-take-le}
 use Rattle.sphere.specs.Point.{limit_of, is_null}
 use Rattle.big_endian.specs.Bytes.{point_at}
 use Rattle.big_endian.proofs.Laws.Rows.{ints_at-length}
-use Rattle.answer.specs.declared.Check.{Check}
-use Rattle.answer.specs.declared.Check.TheVariants.{Passed, Failed}
+use Rattle.std.specs.declared.result.Result.TheVariants.{Ok, Err}
+use Rattle.answer.specs.declared.Refusal.{Refusal}
+use Rattle.answer.specs.Refusal.{Check}
 use Rattle.answer.specs.Chain.{◌then◌}
 use Rattle.polygon.specs.Checks.{accept_check}
 use Rattle.polygon.specs.Pair.{second_check, optional_check, no_second}
@@ -24,40 +24,35 @@ use Rattle.fields.specs.Fields.{vertices_start, grid_of, second_start, has_secon
 use Rattle.fields.specs.Fields.{fields_check}
 use Rattle.sheet.specs.Sheet.{known_of, vertex_count_of, vertices_of, second_of, plain_check, sheet_second_check}
 use Rattle.sheet.specs.Sheet.{sheet_check}
-use Rattle.sheet.specs.Sheet.{refused_sheet, read_after, read_of, loaded_after, loaded_of}
-use Rattle.sheet.specs.Open.{refused_open, opened_after, decoded_of}
-use Rattle.sheet.specs.declared.open.Opened.{Opened}
+use Rattle.sheet.specs.Sheet.{refused_sheet, read_after, read_of, loaded_after}
+use Rattle.sheet.specs.Open.{decoded_of}
 use Rattle.fields.proofs.Laws.Fields.{five_passed}
 
 module _ (b : List ℕ) where
-  pub fields_sound : fields_check b ≡ Passed → sheet_fields b ≡ Passed
+  pub fields_sound : fields_check b ≡ Ok tt → sheet_fields b ≡ Ok tt
   unfolding fields_check
   fields_sound e = (then_passed (sheet_fields b) (rest_check b) e).0
 
-  pub fields_five : fields_check b ≡ Passed → five_fields b ≡ Passed
+  pub fields_five : fields_check b ≡ Ok tt → five_fields b ≡ Ok tt
   fields_five e = five_passed b (fields_sound e)
 
   -- ---- without the second point: the fields are sound and the polygon is accepted
   pub plain_passed :
-      plain_check b ≡ Passed →
-      (fields_check b ≡ Passed) × (accept_check (limit_of (grid_of b)) (vertices_of b) (known_of b) ≡ Passed)
+      plain_check b ≡ Ok tt →
+      (fields_check b ≡ Ok tt) × (accept_check (limit_of (grid_of b)) (vertices_of b) (known_of b) ≡ Ok tt)
   unfolding plain_check
   plain_passed e = then_passed (fields_check b) (accept_check (limit_of (grid_of b)) (vertices_of b) (known_of b)) e
 
-  pub plain_five : plain_check b ≡ Passed → five_fields b ≡ Passed
+  pub plain_five : plain_check b ≡ Ok tt → five_fields b ≡ Ok tt
   plain_five e = fields_five (plain_passed e).0
 
-  pub plain_unsound : {n p : ℕ} → fields_check b ≡ Failed n p → plain_check b ≡ Failed n p
-  unfolding plain_check
-  plain_unsound e = rw e
-
   pub plain_polygon :
-      fields_check b ≡ Passed → plain_check b ≡ accept_check (limit_of (grid_of b)) (vertices_of b) (known_of b)
+      fields_check b ≡ Ok tt → plain_check b ≡ accept_check (limit_of (grid_of b)) (vertices_of b) (known_of b)
   unfolding plain_check
   plain_polygon e = rw e
 
   -- ---- the second point
-  pub second_absent : has_second_point b ≡ false → (second_of b ≡ no_second) × (sheet_second_check b ≡ Passed)
+  pub second_absent : has_second_point b ≡ false → (second_of b ≡ no_second) × (sheet_second_check b ≡ Ok tt)
   unfolding second_of sheet_second_check
   second_absent e = (rw e, rw e)
 
@@ -68,59 +63,51 @@ module _ (b : List ℕ) where
   second_present e = (rw e, rw e)
 
   -- ---- with it
-  pub sheet_failed : {n p : ℕ} → plain_check b ≡ Failed n p → sheet_check b ≡ Failed n p
-  unfolding sheet_check
-  sheet_failed e = rw e
-
-  pub sheet_second : plain_check b ≡ Passed → sheet_check b ≡ sheet_second_check b
+  pub sheet_second : plain_check b ≡ Ok tt → sheet_check b ≡ sheet_second_check b
   unfolding sheet_check
   sheet_second e = rw e
 
-  module _ (e : sheet_check b ≡ Passed) where
-    pub sheet_plain : plain_check b ≡ Passed
+  module _ (e : sheet_check b ≡ Ok tt) where
+    pub sheet_plain : plain_check b ≡ Ok tt
     unfolding sheet_check
     sheet_plain = (then_passed (plain_check b) (sheet_second_check b) e).0
 
-    pub sheet_fields_lem : fields_check b ≡ Passed
+    pub sheet_fields_lem : fields_check b ≡ Ok tt
     sheet_fields_lem = (plain_passed sheet_plain).0
 
-    pub sheet_sound : sheet_fields b ≡ Passed
+    pub sheet_sound : sheet_fields b ≡ Ok tt
     sheet_sound = fields_sound sheet_fields_lem
 
-    pub sheet_five : five_fields b ≡ Passed
+    pub sheet_five : five_fields b ≡ Ok tt
     sheet_five = fields_five sheet_fields_lem
 
-    pub sheet_accepted : accept_check (limit_of (grid_of b)) (vertices_of b) (known_of b) ≡ Passed
+    pub sheet_accepted : accept_check (limit_of (grid_of b)) (vertices_of b) (known_of b) ≡ Ok tt
     sheet_accepted = (plain_passed sheet_plain).1
 
     -- Its points are accepted, one or both.
-    pub sheet_optional : optional_check (limit_of (grid_of b)) (vertices_of b) (known_of b) (second_of b) ≡ Passed
+    pub sheet_optional : optional_check (limit_of (grid_of b)) (vertices_of b) (known_of b) (second_of b) ≡ Ok tt
     unfolding sheet_check optional_check
     sheet_optional = go (has_second_point b) refl (then_passed (plain_check b) (sheet_second_check b) e).1
       where
-        either : (none : Bool) {c : Check} → c ≡ Passed → cond none Passed c ≡ Passed
+        either : (none : Bool) {c : Check} → c ≡ Ok tt → cond none (Ok tt) c ≡ Ok tt
         either true p = refl
         either false p = p
 
-        go : (t : Bool) → has_second_point b ≡ t → sheet_second_check b ≡ Passed →
+        go : (t : Bool) → has_second_point b ≡ t → sheet_second_check b ≡ Ok tt →
             (accept_check (limit_of (grid_of b)) (vertices_of b) (known_of b)
-            then cond (is_null (second_of b)) Passed
+            then cond (is_null (second_of b)) (Ok tt)
             (second_check (limit_of (grid_of b)) (vertices_of b) (known_of b) (second_of b)))
-            ≡ Passed
+            ≡ Ok tt
         go true has ok = rw sheet_accepted (either (is_null (second_of b)) (sym (second_present has).1 ∙ ok))
         go false has ok = rw (sheet_accepted, (second_absent has).0, none_null)
 
-  pub read_refused : {n p : ℕ} → sheet_check b ≡ Failed n p → read_of b ≡ refused_sheet n p
+  pub read_refused : {refusal : Refusal} → sheet_check b ≡ Err refusal → read_of b ≡ refused_sheet refusal
   unfolding read_of
   read_refused e = ap (λ (c : Check). read_after c b) e
 
-  pub read_accepted : sheet_check b ≡ Passed → read_of b ≡ read_after Passed b
+  pub read_accepted : sheet_check b ≡ Ok tt → read_of b ≡ read_after (Ok tt) b
   unfolding read_of
   read_accepted e = ap (λ (c : Check). read_after c b) e
-
-  pub loaded_by : {c : Check} (out : List ℤ) → sheet_check b ≡ c → loaded_of b out ≡ loaded_after c b out
-  unfolding loaded_of
-  loaded_by out e = ap (λ (c : Check). loaded_after c b out) e
 
   pub decoded_by : {c : Check} (out : List ℤ) → fields_check b ≡ c → decoded_of b out ≡ loaded_after c b out
   unfolding decoded_of
@@ -137,26 +124,6 @@ module _ (b : List ℕ) where
       let front = ints_at-length b (vertices_start b + 3) (vertex_count_of b * 3) in
       omega arith
 
-  -- What the checks said, by what opening handed out.
-  pub opened_check : (c : Check) {o : Opened} → o ≡ opened_after c b → o.check ≡ c
-  opened_check Passed e = ap (λ o. o.check) e
-  opened_check (Failed n p) e = ap (λ o. o.check) e
-
-  pub opened_passed : {c : Check} {o : Opened} → o ≡ opened_after c b → c ≡ Passed → o ≡ opened_after Passed b
-  opened_passed e p = e ∙ ap (λ (c : Check). opened_after c b) p
-
-  pub opened_refused : {c : Check} {o : Opened} {n p : ℕ} → o ≡ refused_open n p → c ≡ Failed n p →
-      o ≡ opened_after c b
-  opened_refused e p = e ∙ sym (ap (λ (c : Check). opened_after c b) p)
-
-  -- ---- the scratch space after the checks of a sheet that passed
-  module _ (scratch : List ℤ) {left : List ℤ} (e : fields_check b ≡ Passed) (d : left ≡ decoded_of b scratch) {n : ℕ}
-      (k : n ≡ vertex_count_of b) where
-    front : left ≡ loaded_after Passed b scratch
-    front = d ∙ decoded_by scratch e
-
-    pub opened_row : take (n * 3) left ≡ vertices_of b
-    opened_row = ap₂ (λ (k : ℕ) (l : List ℤ). take (k * 3) l) k front ∙ loaded_row _
-
-    pub opened_room : n * 3 ≤ length left
-    opened_room = rw (k, front) (loaded_room _)
+-- The front of a list is as long as it is told.
+pub taken : (n : ℕ) (l : List ℤ) → n ≤ length l → length (take n l) ≡ n
+taken n l h = length-take-le n l h

@@ -15,7 +15,6 @@ use Rattle.big_endian.specs.Bytes.{numbers_of, point_bytes, AreBytes}
 use Rattle.big_endian.proofs.Laws.Stores.{ints_bytes-length}
 use Rattle.big_endian.proofs.Laws.Written.{first_written, point_written}
 use Rattle.big_endian.proofs.Laws.Kept.{point_kept}
-use Rattle.answer.specs.declared.Check.TheVariants.{Passed}
 use Rattle.judging.proofs.Laws.From.{none_null}
 use Rattle.fields.specs.Fields.{is_allowed, field_check, second_start, has_second_point, sheet_end, second_field, sheet_fields}
 use Rattle.sheet.specs.Sheet.{second_of}
@@ -23,6 +22,7 @@ use Rattle.sheet.specs.Write.{field_bytes, second_bytes, second_size}
 use Rattle.fields.proofs.Laws.Fields.{allowed_bounds, second_passed, second_body, end_absent, end_present}
 use Rattle.sheet.proofs.Laws.Bodies.{tag_written, body_written, field_written, field_kept}
 use Rattle.sheet.proofs.Laws.Reads.{second_absent, second_present}
+use Rattle.std.specs.declared.result.Result.TheVariants.{Ok}
 
 -- ---- a second point that was written, or none
 module _ (second : Point) (b : List ℕ) (stands : drop (second_start b) b ≡ second_bytes second) where
@@ -39,7 +39,7 @@ module _ (second : Point) (b : List ℕ) (stands : drop (second_start b) b ≡ s
     unfolding has_second_point
     some_written = eq-eqb _ 6 (tag_written b (second_start b) 6 (point_bytes second) [] field-stands)
 
-    sixth-written : field_check 6 (is_allowed 12 12 1) b (second_start b) ≡ Passed
+    sixth-written : field_check 6 (is_allowed 12 12 1) b (second_start b) ≡ Ok tt
     unfolding is_allowed
     sixth-written =
         let n = ints_bytes-length (numbers_of second) in
@@ -52,12 +52,12 @@ module _ (second : Point) (b : List ℕ) (stands : drop (second_start b) b ≡ s
         ∙ point_written b (second_start b + 3) second [] w
         (body_written b (second_start b) 6 (point_bytes second) [] field-stands)
 
-  pub second_field_written : second_field b ≡ Passed
+  pub second_field_written : second_field b ≡ Ok tt
   unfolding second_field
   second_field_written = go (is_null second) refl
     where
       go : (none : Bool) → is_null second ≡ none →
-          cond (has_second_point b) (field_check 6 (is_allowed 12 12 1) b (second_start b)) Passed ≡ Passed
+          cond (has_second_point b) (field_check 6 (is_allowed 12 12 1) b (second_start b)) (Ok tt) ≡ Ok tt
       go true e = rw (none_written e)
       go false e = rw (some_written e) (sixth-written e)
 
@@ -77,7 +77,7 @@ module _ (second : Point) (b : List ℕ) (stands : drop (second_start b) b ≡ s
       go false e = end_present b (some_written e)
 
 -- ---- a second point that was read, or none
-module _ (b : List ℕ) (sound : sheet_fields b ≡ Passed) (ends : length b ≡ sheet_end b)
+module _ (b : List ℕ) (sound : sheet_fields b ≡ Ok tt) (ends : length b ≡ sheet_end b)
     (some : has_second_point b ≡ true → is_null (second_of b) ≡ false) where
   pub size_kept : second_start b + second_size (second_of b) ≡ length b
   unfolding second_size

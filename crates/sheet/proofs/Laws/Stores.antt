@@ -40,6 +40,8 @@ second_bytes-length second = go (is_null second)
     go false =
         field_bytes-length 6 (point_bytes second) ∙ ap (λ (n : ℕ). 3 + n) (ints_bytes-length (numbers_of second))
 
+pub ruleset stored = (field_stored, word_bytes_length, ints_bytes-length)
+
 -- The fields, one behind the other, and the length of them all.
 module _ (zone charset : ℕ) (name : List ℕ) (known : Point) (g : Grid) (vertices : List ℤ) (second : Point) where
   pub sheet_stored :

@@ -1,11 +1,10 @@
--- What writing answers and leaves, case by case.
--- Proved, in order: passed_writable, input_sizes, input_storable (what input that passes is known to be);
--- write_refused, write_short, write_done (the three ways that writing ends).
-use mathlib.Core.Path.{◌≡◌, sym, ap, ◌∙◌}
+-- What writing answers and leaves, case by case. Proved, in order: passed_writable, input_sizes, input_storable (what
+-- input that passes is known to be); answered, refused_kept, passed_stored (how it ends).
+use mathlib.Core.Path.{◌≡◌, refl, sym, ap, ◌∙◌}
 use mathlib.Core.List.{List, [], ◌∷◌, ◌++◌}
 use Prim.Native.Nat.{ℕ, ◌+◌, ◌≤◌, ◌<◌}
 use native.Mathlib.Omega.{arith}
-use borrow.Author.Tests.{lt-ltb, le-ltb, leb-true, not-false}
+use borrow.Author.Tests.{ltb-false, leb-true, not-false}
 use lib.Dec.{leb}
 use lib.IntN.{ℤ}
 use lib.ListN.{length, drop}
@@ -13,9 +12,13 @@ use lib.Seq.{sets, sets-eq}
 use Rattle.sphere.specs.declared.point.Grid.{Grid}
 use Rattle.sphere.specs.declared.point.GridPoint.{GridPoint}
 use Rattle.sphere.specs.Point.{limit_of}
-use Rattle.answer.specs.declared.Answer.{Answer}
-use Rattle.answer.specs.declared.Answer.TheVariants.{Done, Refused}
-use Rattle.answer.specs.declared.Check.TheVariants.{Passed, Failed}
+use Rattle.std.specs.declared.result.Result.TheVariants.{Ok, Err}
+use Rattle.answer.specs.declared.Refusal.{Refusal}
+use Rattle.answer.specs.declared.Reason.TheVariants.{Charset, FieldLength, SheetRoom}
+use Rattle.answer.specs.declared.Verdict.{Verdict}
+use Rattle.answer.specs.Refusal.{Check}
+use Rattle.answer.specs.Answer.{answer_after}
+use Rattle.answer.specs.Buffer.{buffer_after}
 use Rattle.polygon.specs.Pair.{optional_check}
 use Rattle.polygon.specs.Grids.{is_mixed, grid_check, grid_of_second}
 use Rattle.answer.proofs.Laws.Chain.{here_passed, then_passed, both_true}
@@ -30,7 +33,7 @@ use Rattle.sheet.proofs.Laws.Stores.{sheet_bytes-length}
 
 module _ (charset : ℕ) (name : List ℕ) (known : GridPoint) (g : Grid) (vertices : List ℤ) (second : GridPoint) where
   pub passed_writable :
-      (zone : ℕ) → zone < 4294967296 → input_check charset name known g vertices second ≡ Passed →
+      (zone : ℕ) → zone < 4294967296 → input_check charset name known g vertices second ≡ Ok tt →
       Writable zone charset name known.point g vertices second.point
   unfolding input_check
   passed_writable zone small e =
@@ -40,12 +43,12 @@ module _ (charset : ℕ) (name : List ℕ) (known : GridPoint) (g : Grid) (verti
       let three = then_passed mixed (optional_check (limit_of g) vertices known.point second.point) two.1 in
       record {
         small = small;
-        coded = not-false _ (here_passed 23 0 _ one.0);
-        named = not-false _ (here_passed 22 0 _ two.0);
+        coded = not-false _ (here_passed Charset 0 _ one.0);
+        named = not-false _ (here_passed FieldLength 0 _ two.0);
         paired = three.1;
       }
 
-  module _ (ok : input_check charset name known g vertices second ≡ Passed) where
+  module _ (ok : input_check charset name known g vertices second ≡ Ok tt) where
     pub input_sizes : (length name ≤ 120) × (length vertices ≤ 12288)
     input_sizes =
         let w = passed_writable 0 (omega arith) ok in
@@ -75,46 +78,43 @@ module _ (charset : ℕ) (name : List ℕ) (known : GridPoint) (g : Grid) (verti
           enough = h;
         }
 
-  -- ---- the three ways that writing ends
+  -- ---- what it answers, and what it leaves in the buffer
+  answer_passed : (c : Check) (done : Verdict) {verdict : Verdict} → answer_after c (Ok done) ≡ Ok verdict → c ≡ Ok tt
+  answer_passed (Ok unit) done e = refl
+  answer_passed (Err refusal) done e = absurd cc
+
+  pub answered : {verdict : Verdict} (room : ℕ) → write_of charset name known g vertices second room ≡ Ok verdict →
+      (write_check charset name known g vertices second room ≡ Ok tt)
+      × (input_check charset name known g vertices second ≡ Ok tt)
+      × (bytes_needed name vertices second.point ≤ room)
+  unfolding write_of write_check
+  answered room e =
+      let n = bytes_needed name vertices second.point in
+      let passed = answer_passed (write_check charset name known g vertices second room) _ e in
+      let both = then_passed (input_check charset name known g vertices second) _ passed in
+      (passed, both.0, ltb-false room n (here_passed SheetRoom n _ both.1))
+
   module _ (zone : ℕ) (buffer : List ℕ) where
-    -- The answer and the buffer after writing.
-    pub record Ends (answer : Answer) (left : List ℕ) : Type 0 where
-      pub answered : write_of charset name known g vertices second (length buffer) ≡ answer
-      pub filled : written_to zone charset name known g vertices second buffer ≡ left
-
-    failed_ends :
-        {n p : ℕ} → write_check charset name known g vertices second (length buffer) ≡ Failed n p →
-        Ends (Refused n p) buffer
+    pub refused_kept :
+        {refusal : Refusal} → write_of charset name known g vertices second (length buffer) ≡ Err refusal →
+        written_to zone charset name known g vertices second buffer ≡ buffer
     unfolding write_of written_to
-    failed_ends e = record { answered = rw e; filled = rw e }
+    refused_kept e = go (write_check charset name known g vertices second (length buffer)) _ _ e
+      where
+        go : (c : Check) (sheet : List ℕ) (done : Verdict) {refusal : Refusal} → answer_after c (Ok done) ≡ Err refusal →
+            buffer_after c sheet buffer ≡ buffer
+        go (Ok unit) sheet done e = absurd cc
+        go (Err refusal) sheet done e = refl
 
-    pub write_refused :
-        {n p : ℕ} → input_check charset name known g vertices second ≡ Failed n p → Ends (Refused n p) buffer
-    unfolding write_check
-    write_refused e = failed_ends (rw e)
-
-    module _ (ok : input_check charset name known g vertices second ≡ Passed) where
-      pub write_short :
-          length buffer < bytes_needed name vertices second.point →
-          Ends (Refused 25 (bytes_needed name vertices second.point)) buffer
-      unfolding write_check
-      write_short h =
-          failed_ends (rw (ok, lt-ltb (length buffer) (bytes_needed name vertices second.point) h))
-
-      enough-passed :
-          bytes_needed name vertices second.point ≤ length buffer →
-          write_check charset name known g vertices second (length buffer) ≡ Passed
-      unfolding write_check
-      enough-passed h = rw (ok, le-ltb (length buffer) (bytes_needed name vertices second.point) h)
-
-      pub write_done :
-          bytes_needed name vertices second.point ≤ length buffer →
-          Ends (Done (bytes_needed name vertices second.point))
-          (sets buffer 0 (sheet_bytes zone charset name known.point g vertices second.point))
-      unfolding write_of written_to
-      write_done h =
-          let sheet = sheet_bytes zone charset name known.point g vertices second.point in
-          let n = sheet_bytes-length zone charset name known.point g vertices second.point in
-          let z : 0 + length sheet ≡ length sheet = omega arith in
-          let stored = sets-eq sheet buffer 0 (omega arith) ∙ ap (λ (k : ℕ). sheet ++ drop k buffer) z in
-          record { answered = rw (enough-passed h); filled = rw (enough-passed h) (sym stored) }
+    pub passed_stored :
+        write_check charset name known g vertices second (length buffer) ≡ Ok tt →
+        bytes_needed name vertices second.point ≤ length buffer →
+        written_to zone charset name known g vertices second buffer
+        ≡ sets buffer 0 (sheet_bytes zone charset name known.point g vertices second.point)
+    unfolding written_to
+    passed_stored e h =
+        let sheet = sheet_bytes zone charset name known.point g vertices second.point in
+        let n = sheet_bytes-length zone charset name known.point g vertices second.point in
+        let z : 0 + length sheet ≡ length sheet = omega arith in
+        let stored = sets-eq sheet buffer 0 (omega arith) ∙ ap (λ (k : ℕ). sheet ++ drop k buffer) z in
+        rw e (sym stored)

@@ -18,7 +18,6 @@ use Rattle.sphere.specs.Point.{limit_of, Within, is_null}
 use Rattle.big_endian.specs.Bytes.{short_at, word_bytes, ints_bytes, numbers_of, point_bytes}
 use Rattle.big_endian.proofs.Laws.Written.{first_written, word_written, ints_written, point_written}
 use Rattle.big_endian.proofs.Laws.Stores.{ints_bytes-length}
-use Rattle.answer.specs.declared.Check.TheVariants.{Passed}
 use Rattle.polygon.specs.Vertices.{vertices_count}
 use Rattle.polygon.specs.Checks.{accept_check}
 use Rattle.polygon.specs.Pair.{optional_check}
@@ -38,6 +37,7 @@ use Rattle.sheet.proofs.Laws.Reads.{plain_polygon, second_absent, second_present
 use Rattle.sheet.proofs.Laws.Accepted.{accepted_list, accepted_number, fits_word, within_word, optional_small}
 use Rattle.sheet.proofs.Laws.Second.{none_written, some_written, second_field_written, second_written}
 use Rattle.sheet.proofs.Laws.Second.{end_second}
+use Rattle.std.specs.declared.result.Result.TheVariants.{Ok}
 
 -- Its parts are those that the writer's checks let through.
 pub record Writable (zone charset : ℕ) (name : List ℕ) (known : Point) (g : Grid) (vertices : List ℤ)
@@ -45,14 +45,14 @@ pub record Writable (zone charset : ℕ) (name : List ℕ) (known : Point) (g : 
   pub small : zone < 4294967296
   pub coded : is_charset charset ≡ true
   pub named : is_allowed 1 120 1 (length name) ≡ true
-  pub paired : optional_check (limit_of g) vertices known second ≡ Passed
+  pub paired : optional_check (limit_of g) vertices known second ≡ Ok tt
 
 module _
     (zone charset : ℕ) (name : List ℕ) (known : Point) (g : Grid) (vertices : List ℤ) (second : Point)
     (w : Writable zone charset name known g vertices second)
     (b : List ℕ) (is : b ≡ sheet_bytes zone charset name known g vertices second) where
   -- its points
-  accepted : accept_check (limit_of g) vertices known ≡ Passed
+  accepted : accept_check (limit_of g) vertices known ≡ Ok tt
   accepted = optional_first (limit_of g) vertices known second w.paired
 
   second_within : Within 2147483647 second
@@ -154,7 +154,7 @@ module _
       (body_written b (vertices_start b) (tag_of g) (ints_bytes vertices) _ vertices_at))
 
   -- its fields pass, and nothing follows them
-  charset_passed : charset_check b ≡ Passed
+  charset_passed : charset_check b ≡ Ok tt
   unfolding charset_check is_allowed
   charset_passed =
       rw (
@@ -163,19 +163,19 @@ module _
         w.coded,
       )
 
-  zone_passed : zone_check b ≡ Passed
+  zone_passed : zone_check b ≡ Ok tt
   unfolding is_allowed
   zone_passed =
       let n = word_bytes_length zone in
       field_written b 0 1 (word_bytes zone) _ zone_at_lem (is_allowed 4 4 1) (omega arith) (ap (is_allowed 4 4 1) n)
 
-  known_passed : known_check b ≡ Passed
+  known_passed : known_check b ≡ Ok tt
   unfolding is_allowed
   known_passed =
       field_written b (known_start b) 4 (point_bytes known) _ known_at (is_allowed 12 12 1)
       (omega (arith, known_size)) (ap (is_allowed 12 12 1) known_size)
 
-  vertices_passed : vertices_check b ≡ Passed
+  vertices_passed : vertices_check b ≡ Ok tt
   vertices_passed =
       let l = accepted_list (limit_of g) vertices known accepted in
       let n = ints_bytes-length vertices in
@@ -183,7 +183,7 @@ module _
       (field_written b (vertices_start b) (tag_of g) (ints_bytes vertices) _ vertices_at (is_allowed 36 49152 12) row_size
       (bounds_allowed 36 49152 12 _ (record { low = omega arith; high = omega arith; whole = omega arith })))
 
-  five_written : five_fields b ≡ Passed
+  five_written : five_fields b ≡ Ok tt
   unfolding five_fields
   five_written =
       let named = field_written b name_start 3 name _ name_at_lem (is_allowed 1 120 1) name_size w.named in
@@ -195,7 +195,7 @@ module _
       let e = end_second second b second_at in
       omega (arith, second_start_lem, known_start_lem, ints_bytes-length vertices)
 
-  pub fields_written : fields_check b ≡ Passed
+  pub fields_written : fields_check b ≡ Ok tt
   unfolding fields_check sheet_fields rest_check
   fields_written =
       rw (five_written, second_field_written second b second_at, le-ltb (sheet_end b) (length b) sheet_ends)
@@ -204,17 +204,17 @@ module _
   pub second_back : second_of b ≡ second
   second_back = second_written second b second_at second_within
 
-  second_check_written : sheet_second_check b ≡ Passed
+  second_check_written : sheet_second_check b ≡ Ok tt
   second_check_written = go (is_null second) refl
     where
-      go : (none : Bool) → is_null second ≡ none → sheet_second_check b ≡ Passed
+      go : (none : Bool) → is_null second ≡ none → sheet_second_check b ≡ Ok tt
       go true e = (second_absent b (none_written second b second_at e)).1
       go false e =
           (second_present b (some_written second b second_at e)).1
           ∙ rw (grid_written, vertices_written, known_written, second_back)
           (optional_check_lem (limit_of g) vertices known second w.paired e)
 
-  written_check : sheet_check b ≡ Passed
+  written_check : sheet_check b ≡ Ok tt
   written_check =
       sheet_second b (plain_polygon b fields_written ∙ rw (grid_written, vertices_written, known_written) accepted)
       ∙ second_check_written

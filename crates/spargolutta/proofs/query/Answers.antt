@@ -8,9 +8,9 @@ use Rattle.spargolutta.proofs.query.Goals as goal
 
 pub returns : goal.returns
 returns c =
-    let x = c.wide in
-    let y = c.wide-2 in
-    let z = c.wide-3 in
+    let x = c.from in
+    let y = c.from-2 in
+    let z = c.from-3 in
     let f = c.ranges in
     (λ i. query_of
     (result_same w64 x.result x.type_inv x.ensures i)

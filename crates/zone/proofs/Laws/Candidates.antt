@@ -13,9 +13,11 @@ use Rattle.sphere.specs.declared.point.Point.{Point}
 use Rattle.sphere.specs.Point.{limit_of}
 use Rattle.big_endian.specs.Bytes.{point_at}
 use Rattle.big_endian.proofs.Laws.Rows.{ints_at-length}
-use Rattle.answer.specs.declared.Found.{Found}
-use Rattle.answer.specs.declared.Answer.TheVariants.{Refused}
-use Rattle.answer.specs.declared.Check.TheVariants.{Passed, Failed}
+use Rattle.std.specs.declared.option.Option.{Option}
+use Rattle.std.specs.declared.result.Result.TheVariants.{Ok, Err}
+use Rattle.answer.specs.declared.Refusal.{Refusal}
+use Rattle.answer.specs.declared.Reason.TheVariants.{VertexList}
+use Rattle.answer.specs.Refusal.{refused_at}
 use Rattle.answer.specs.Search.{first_from}
 use Rattle.polygon.specs.Vertices.{vertices_count, vertex_at}
 use Rattle.polygon.specs.Checks.{accept_check}
@@ -46,7 +48,7 @@ candidates_count : (candidates : List ℕ) → vertices_count (candidates_of can
 candidates_count candidates = omega (arith, candidates_length candidates)
 
 pub chosen_accepted :
-    (limit : ℕ) (vs : List ℤ) (X : Point) (candidates : List ℕ) → accept_check limit vs X ≡ Passed → {found : Found} →
+    (limit : ℕ) (vs : List ℤ) (X : Point) (candidates : List ℕ) → accept_check limit vs X ≡ Ok tt → {found : Option ℕ} →
     first_from (λ i. is_second limit vs X (vertex_at (candidates_of candidates) i)) 0 (candidate_count candidates) ≡ found →
     choose_of limit vs X (candidates_of candidates) ≡ chosen found
 unfolding choose_of earliest_of
@@ -55,21 +57,21 @@ chosen_accepted limit vs X candidates ok e =
 
 -- ---- how choosing by a sheet ends
 module _ (b candidates : List ℕ) where
-  pub choose_short : (length candidates % 12 ≡ 0 → ⊥) → sheet_choose_of b candidates ≡ Refused 10 0
+  pub choose_short : (length candidates % 12 ≡ 0 → ⊥) → sheet_choose_of b candidates ≡ Err (refused_at VertexList 0)
   unfolding sheet_choose_of whole_check
   choose_short h = rw (ne_eqb (length candidates % 12) 0 h)
 
   module _ (whole : length candidates % 12 ≡ 0) where
-    whole_passed : whole_check candidates ≡ Passed
+    whole_passed : whole_check candidates ≡ Ok tt
     unfolding whole_check
     whole_passed = rw (eq-eqb (length candidates % 12) 0 whole)
 
-    pub choose_passed : plain_check b ≡ Passed →
+    pub choose_passed : plain_check b ≡ Ok tt →
         sheet_choose_of b candidates ≡ choose_of (limit_of (grid_of b)) (vertices_of b) (known_of b) (candidates_of candidates)
     unfolding sheet_choose_of
     choose_passed e = rw (whole_passed, (plain_passed b e).0)
 
-    pub choose_failed : {n p : ℕ} → plain_check b ≡ Failed n p → sheet_choose_of b candidates ≡ Refused n p
+    pub choose_failed : {refusal : Refusal} → plain_check b ≡ Err refusal → sheet_choose_of b candidates ≡ Err refusal
     unfolding sheet_choose_of choose_of plain_check
     choose_failed e =
         let accept = accept_check (limit_of (grid_of b)) (vertices_of b) (known_of b) in

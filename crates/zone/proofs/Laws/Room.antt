@@ -1,5 +1,5 @@
 -- Scratch space for a sheet's boxes. Proved, in order: any_boxes (768 numbers, for any sheet), sized_boxes, few_boxes
--- (48, for one of at most 3,072 bytes), middle_boxes (258, for one of at most 16,384).
+-- (48, for one of at most 3,072 bytes), middle_boxes (258, for one of at most 16,384); few_room, middle_room, any_room.
 use mathlib.Core.List.{List}
 use Prim.Native.Nat.{ℕ, ◌+◌, ◌*◌, ◌≤◌}
 use native.Mathlib.Omega.{arith}
@@ -13,6 +13,7 @@ use Rattle.fields.proofs.Laws.Fields.{passed_spans}
 use Rattle.judging.proofs.Laws.Accept.{room_any}
 use Rattle.sheet.specs.Sheet.{vertex_count_of, vertices_of}
 use Rattle.sheet.specs.Open.{BoxesFor}
+use Rattle.zone.specs.Judge.{RoomIn}
 
 pub any_boxes : (b : List ℕ) (boxes : List ℤ) → 768 ≤ length boxes → BoxesFor b boxes
 any_boxes b boxes h = record { enough = λ e. room_any (vertices_of b) boxes h }
@@ -40,3 +41,13 @@ few_boxes b boxes short h = sized_boxes b boxes 256 (omega arith) (omega arith)
 pub middle_boxes : (b : List ℕ) (boxes : List ℤ) → length b ≤ 16384 → 258 ≤ length boxes → BoxesFor b boxes
 unfolding run_count
 middle_boxes b boxes short h = sized_boxes b boxes 1366 (omega arith) (omega arith)
+
+-- ---- the sizes of the scratch space, for the code
+pub few_room : (b : List ℕ) → length b ≤ 3072 → RoomIn 768 48 b
+few_room b short = record { numbers_few = omega arith; boxes_few = omega arith; enough = omega arith; boxed = λ l h. few_boxes b l short (omega arith) }
+
+pub middle_room : (b : List ℕ) → length b ≤ 16384 → RoomIn 4096 258 b
+middle_room b short = record { numbers_few = omega arith; boxes_few = omega arith; enough = omega arith; boxed = λ l h. middle_boxes b l short (omega arith) }
+
+pub any_room : (b : List ℕ) → RoomIn 12288 768 b
+any_room b = record { numbers_few = omega arith; boxes_few = omega arith; enough = omega arith; boxed = λ l h. any_boxes b l (omega arith) }

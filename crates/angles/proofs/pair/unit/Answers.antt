@@ -10,20 +10,6 @@ use Rattle.angles.specs.Angle.{one_on}
 use Rattle.angles.proofs.Floats.{coarse_unit, fine_unit}
 use Rattle.angles.proofs.pair.unit.Goals as goal
 
-small : (g : Grid) (n : ℕ) → n < one_on g * 2 → n ≤ 2 ^ 53
-small Coarse n h = le_trans (le_of_lt h) (lit≤ tt)
-small Fine n h = le_trans (le_of_lt h) (lit≤ tt)
-
-pub int_to_float-result : goal.int_to_float-result
-unfolding in_float
-int_to_float-result c =
-    let i = c.before.before in le→leb i.args.n (2 ^ 53) (small i.args.grid i.args.n i.requires)
-
-pub int_to_float-result-in-Fine : goal.int_to_float-result-in-Fine
-unfolding in_float
-int_to_float-result-in-Fine c =
-    let i = c.before.before in le→leb i.args.n (2 ^ 53) (small i.args.grid i.args.n i.requires)
-
 pub returns-in-Coarse : goal.returns-in-Coarse
 returns-in-Coarse c =
     let i = c.before.before in

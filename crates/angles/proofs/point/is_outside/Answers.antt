@@ -10,7 +10,7 @@ unfolding is_outside
 returns-then-is_past c =
     let s = c.before.before.before in
     let w = words_of s.before.before.args.p s.struct_told-2-1.given in
-    let a = c.before.before.wide in
+    let a = c.before.before.from in
     rw (called (is_far 1800000000) _ a.result (widened _ _ w.at_lon a.type_inv a.ensures)
     c.before.is_past.ensures
     c.if-is_past.true)
@@ -21,8 +21,8 @@ returns c =
     let j = c.before.before in
     let s = j.before.before.before in
     let w = words_of s.before.before.args.p s.struct_told-2-1.given in
-    let a = j.before.before.wide in
-    let b = c.before.wide-2 in
+    let a = j.before.before.from in
+    let b = c.before.from-2 in
     rw (called (is_far 1800000000) _ a.result (widened _ _ w.at_lon a.type_inv a.ensures)
     j.before.is_past.ensures
     j.if-is_past.false)

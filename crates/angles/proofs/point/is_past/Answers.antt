@@ -47,9 +47,6 @@ module _ (n : ℕ) (k : ℤ) (more : 0 < n) (small : n ≤ 4294967295) (given : 
     pub far_else : (t || lt_z (to_z w64 n) (to_z w64 (of_z w64 k))) ≡ is_far n k
     far_else = ap (λ b. t || b) (ap₂ lt_z most number) ∙ far
 
-pub overflow_sub-m : goal.overflow_sub-m
-overflow_sub-m c = fits c.args.most c.args.k c.requires.0 c.requires.1 c.ranges.k
-
 pub returns-then-k-m : goal.returns-then-k-m
 returns-then-k-m c =
     let i = c.before in

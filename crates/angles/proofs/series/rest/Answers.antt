@@ -4,9 +4,6 @@ use Rattle.angles.specs.Angle.{one_on}
 use Rattle.angles.proofs.Whole.{fits_term, twice_divided, taken_le, less_le}
 use Rattle.angles.proofs.series.rest.Goals as goal
 
-pub overflow_mul-result : goal.overflow_mul-result
-overflow_mul-result c = fits_term c.before.args.grid _ _ c.before.requires.0 c.before.requires.1
-
 pub overflow_sub-result : goal.overflow_sub-result
 overflow_sub-result c =
     let i = c.before in

@@ -13,14 +13,9 @@ use Rattle.integers.specs.Sign.{sign_of, is_negative}
 use Rattle.integers.proofs.Compare.{negative_test}
 use Rattle.integers.proofs.Size.{nat_abs_zero}
 use Rattle.azimuths.specs.Azimuth.{quarter_of, part_of, across_of, azimuth_by}
+use Rattle.azimuths.proofs.Laws.Seen.{below as azimuth_less}
 use Rattle.azimuths.proofs.azimuth.azimuth_by.Goals as goal
-use Rattle.azimuths.proofs.azimuth.azimuth_by.Goals.{After-size-b, After-quarter}
-use Rattle.azimuths.proofs.azimuth.azimuth_by.Lts as lts
-use Rattle.azimuths.proofs.azimuth.azimuth_by.Reads as reads
-use Rattle.azimuths.proofs.azimuth.azimuth_by.Tie as tie
-
-abbrev Start : Type 0
-Start = lts.Start tie.the-claims reads.Pre reads.Post
+use Rattle.azimuths.proofs.azimuth.azimuth_by.Goals.{After-part, then-u-v, else-u-v}
 
 -- No direction has azimuth 0.
 nowhere : (u v : ℤ) → nat_abs u + nat_abs v ≡ 0 → 0 ≡ azimuth_by u v
@@ -34,11 +29,7 @@ quarter_most true true = omega arith
 quarter_most false true = omega arith
 
 -- The size that is chosen, as the code tells it.
-chosen_most : (t : Bool) (a b : ℕ) → cond t a b ≤ a + b
-chosen_most true a b = omega arith
-chosen_most false a b = omega arith
-
-chosen : (west south : Bool) (a b : ℕ) → cond (not (beq west south)) a b ≡ across_of west south a b
+chosen : (west south : Bool) (a b : ℕ) → across_of west south a b ≡ cond (not (beq west south)) a b
 chosen false false a b = refl
 chosen true false a b = refl
 chosen true true a b = refl
@@ -48,82 +39,43 @@ across_same : {w w' s s' : Bool} {a a' b b' : ℕ} → w ≡ w' → s ≡ s' →
     across_of w s a b ≡ across_of w' s' a' b'
 across_same p q e f = rw (p, q, e, f)
 
-module _ (c : After-size-b) where
-  abbrev start : Start
-  start = c.before.before
-
-  abbrev u : ℤ
-  u = start.args.u
-
-  abbrev v : ℤ
-  v = start.args.v
-
-  first_size : c.size-a.result ≡ nat_abs u
-  first_size = c.size-a.ensures ∙ ap nat_abs (to_z-of_z w64 u start.ranges.u)
-
-  second_size_lem : c.size-b.result ≡ nat_abs v
-  second_size_lem = c.size-b.ensures ∙ ap nat_abs (to_z-of_z w64 v start.ranges.v)
-
-  -- the two tests, and their meaning
-  abbrev west : Bool
-  west = lt_z (to_z w64 (of_z w64 u)) (pos 0)
-
-  abbrev south : Bool
-  south = lt_z (to_z w64 (of_z w64 v)) (pos 0)
-
-  west_sign : west ≡ is_negative (sign_of u)
-  west_sign = negative_test w64 u start.ranges.u
-
-  south_sign : south ≡ is_negative (sign_of v)
-  south_sign = negative_test w64 v start.ranges.v
-
-pub overflow_add-d : goal.overflow_add-d
-overflow_add-d c = omega (arith, first_size c, second_size_lem c, (start c).requires.0.within, (start c).requires.1.within)
+-- Which sides the code asks for: west, and south.
+abbrev below : ℤ → Bool
+below k = lt_z (to_z w64 (of_z w64 k)) (pos 0)
 
 pub returns-then-d-eq0 : goal.returns-then-d-eq0
 returns-then-d-eq0 c =
-    nowhere (u c.before) (v c.before) (omega (arith, first_size c.before, second_size_lem c.before, c.if-d-eq0.true))
-
-module _ (c : After-quarter) where
-  abbrev sizes : After-size-b
-  sizes = c.before.before.before
-
-  abbrev a : ℕ
-  a = sizes.size-a.result
-
-  abbrev b : ℕ
-  b = sizes.size-b.result
-
-  told : c.choose-across.result ≡ cond (not (beq (west sizes) (south sizes))) a b
-  told = c.choose-across.ensures
-
-  least : c.choose-across.result ≤ a + b
-  least = omega (arith, told, chosen_most (not (beq (west sizes) (south sizes))) a b)
-
-  across : c.choose-across.result
-      ≡ across_of (is_negative (sign_of (u sizes))) (is_negative (sign_of (v sizes))) (nat_abs (u sizes)) (nat_abs (v sizes))
-  across = told ∙ chosen (west sizes) (south sizes) a b
-      ∙ across_same (west_sign sizes) (south_sign sizes) (first_size sizes) (second_size_lem sizes)
-
-pub part-requires : goal.part-requires
-part-requires c =
-    let s = sizes c in
-    let e = first_size s in
-    let f = second_size_lem s in
-    let small : a c + b c ≤ 27021597764222976 = omega (arith, (start s).requires.0.within, (start s).requires.1.within) in
-    (omega (arith, c.if-d-eq0.false), least c, small)
+    let a = ap nat_abs (to_z-of_z w64 c.args.u c.ranges.u) in
+    let b = ap nat_abs (to_z-of_z w64 c.args.v c.ranges.v) in
+    nowhere c.args.u c.args.v (omega arith)
 
 pub overflow_add-result : goal.overflow_add-result
 overflow_add-result c =
-    let s = sizes c.before in
-    let quarter = quarter_most (west s) (south s) in
-    let n = c.choose-across.result * 16384 in
-    let part = div-le_of_le-mul (a c.before + b c.before) {m = n} {n = 16384} (omega (arith, least c.before)) in
-    omega (arith, c.quarter.ensures, c.part.ensures)
+    let d = c.unsigned_abs-a.result + c.unsigned_abs-b.result in
+    let least : c.if-u-v.across ≤ d = elim c.if-u-v.branch [ then-u-v w ↦ omega arith | else-u-v w ↦ omega arith ] in
+    let part = div-le_of_le-mul d {m = c.if-u-v.across * 16384} {n = 16384} (omega (arith, least)) in
+    omega (arith, quarter_most (below c.args.u) (below c.args.v))
+
+same : (c : After-part) → c.quarter.result + c.part.result ≡ azimuth_by c.args.u c.args.v
+unfolding azimuth_by
+same c =
+    let u = c.args.u in
+    let v = c.args.v in
+    let a = c.unsigned_abs-a in
+    let b = c.unsigned_abs-b in
+    let west : below u ≡ is_negative (sign_of u) = negative_test w64 u c.ranges.u in
+    let south : below v ≡ is_negative (sign_of v) = negative_test w64 v c.ranges.v in
+    let first : a.result ≡ nat_abs u = a.ensures.value ∙ ap nat_abs (to_z-of_z w64 u c.ranges.u) in
+    let second : b.result ≡ nat_abs v = b.ensures.value ∙ ap nat_abs (to_z-of_z w64 v c.ranges.v) in
+    let across : c.if-u-v.across ≡ across_of (below u) (below v) a.result b.result = elim c.if-u-v.branch [
+      | then-u-v w ↦ rw (chosen (below u) (below v) a.result b.result, w.if-u-v.true) w.across-is
+      | else-u-v w ↦ rw (chosen (below u) (below v) a.result b.result, w.if-u-v.false) w.across-is
+    ] in
+    ap₂ ◌+◌ (c.quarter.ensures ∙ ap₂ quarter_of west south)
+    (c.part.ensures ∙ ap₂ part_of (across ∙ across_same west south first second) (ap₂ ◌+◌ first second))
+
+pub overflow_cast-result : goal.overflow_cast-result
+overflow_cast-result c = omega (arith, same c, azimuth_less c.args.u c.args.v)
 
 pub returns : goal.returns
-unfolding azimuth_by
-returns c =
-    let s = sizes c.before in
-    ap₂ ◌+◌ (c.quarter.ensures ∙ ap₂ quarter_of (west_sign s) (south_sign s))
-    (c.part.ensures ∙ ap₂ part_of (across c.before) (ap₂ ◌+◌ (first_size s) (second_size_lem s)))
+returns c = same c

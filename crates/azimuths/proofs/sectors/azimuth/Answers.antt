@@ -4,7 +4,6 @@ use mir.Syntax.{w64}
 use Rattle.integers.proofs.Compare.{result_same}
 use Rattle.sphere.specs.Point.{Fits}
 use Rattle.azimuths.specs.Azimuth.{seen, azimuth_by, azimuth_of}
-use Rattle.azimuths.proofs.Laws.Azimuth.{azimuth_below}
 use Rattle.azimuths.proofs.Laws.SectorsTo.{dot_seen}
 use Rattle.azimuths.proofs.sectors.azimuth.Goals as goal
 
@@ -26,8 +25,6 @@ unfolding azimuth_of
 returns c =
     let first = c.dot in
     let second = c.dot-2 in
-    let v = c.args in
-    let same = c.azimuth_by.ensures
+    c.azimuth_by.ensures
     ∙ ap₂ azimuth_by (result_same w64 first.result first.type_inv first.ensures)
-    (result_same w64 second.result second.type_inv second.ensures) in
-    (same, rw same (azimuth_below v.frame v.p))
+    (result_same w64 second.result second.type_inv second.ensures)

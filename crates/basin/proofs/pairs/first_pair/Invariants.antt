@@ -23,9 +23,9 @@ invariant-loop-j l =
 abbrev pub decreases-loop-j : goal.decreases-loop-j
 decreases-loop-j l = l.last + 1 - l.j
 
-abbrev pub invariant-pairs : goal.invariant-pairs
-invariant-pairs l =
+abbrev pub invariant-loop-i : goal.invariant-loop-i
+invariant-loop-i l =
     (l.i ≤ l.last) × Paired (is_offending l.vertices) (vertices_count l.vertices) l.i
 
-abbrev pub decreases-pairs : goal.decreases-pairs
-decreases-pairs l = l.last - l.i
+abbrev pub decreases-loop-i : goal.decreases-loop-i
+decreases-loop-i l = l.last - l.i

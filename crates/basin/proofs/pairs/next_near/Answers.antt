@@ -1,32 +1,36 @@
 -- `next_near` meets its contract: the edges from j on, before the one at hand, are passed.
 use mathlib.Core.Path.{◌≡◌, refl, sym, ◌∙◌, ap}
-use mathlib.Core.Bool.{Bool, true, false, not, true≢false}
+use mathlib.Core.Bool.{Bool, true}
 use mathlib.Core.List.{List}
 use mathlib.Core.Logic.{⊎_elim}
-use Prim.Native.Nat.{ℕ, ◌+◌, ◌≤◌, ◌<◌}
+use Prim.Native.Nat.{ℕ, ◌+◌, ◌^◌, ◌≤◌, ◌<◌}
 use native.Mathlib.Omega.{arith}
 use native.Mathlib.Nat.{eq-or-lt_of_le}
 use lib.IntN.{ℤ}
+use lib.Signed.{mag}
 use mir.Syntax.{w64}
-use mir.Val.{to_z, of_z}
+use mir.Val.{hbits, to_z, of_z}
 use mir.ValLaws.{to_z-of_z}
 use Rattle.integers.specs.Sign.{sign_of}
 use Rattle.integers.proofs.Compare.{result_sign}
 use Rattle.sphere.specs.declared.point.Point.{Point}
 use Rattle.sphere.specs.Orientation.{dot_of}
 use Rattle.sphere.specs.Crossing.{is_beside}
-use Rattle.polygon.specs.Vertices.{vertices_count}
+use Rattle.polygon.specs.Vertices.{vertices_count, vertex_at}
 use Rattle.polygon.proofs.Laws.Count.{next_last}
 use Rattle.polygon.proofs.Laws.Edges.{next_start}
 use Rattle.basin.specs.Pairs.{side_of, is_passed}
 use Rattle.basin.proofs.pairs.next_near.Goals as goal
-use Rattle.basin.proofs.pairs.next_near.Goals.{Start, In-loop-edge}
-use Rattle.basin.proofs.pairs.next_near.Lts as lts
-use Rattle.basin.proofs.pairs.next_near.Reads as reads
-use Rattle.basin.proofs.pairs.next_near.Tie as tie
 
-abbrev After-is_beside : Type 0
-After-is_beside = lts.After-is_beside tie.the-claims reads.Pre reads.Post goal.the-invariant-loop-edge goal.the-decreases-loop-edge tie.handed_clauses
+-- The side of the vertex after the one at hand, as the local holds it.
+second : (vs : List ℤ) (N : Point) (edge : ℕ) {p : Point} (z : ℤ) → p ≡ vertex_at vs (edge + 1) → mag z < 2 ^ hbits w64 →
+    sign_of z ≡ sign_of (dot_of N p) → sign_of (to_z w64 (of_z w64 z)) ≡ sign_of (side_of vs N (edge + 1))
+second vs N edge z e small s = result_sign w64 z small (s ∙ ap (λ p. sign_of (dot_of N p)) e)
+
+-- What the test says of the edge at hand.
+says : (vs : List ℤ) (N : Point) (edge : ℕ) (s t : ℤ) {b c : Bool} → sign_of s ≡ sign_of (side_of vs N edge) →
+    sign_of t ≡ sign_of (side_of vs N (edge + 1)) → b ≡ is_beside (sign_of s) (sign_of t) → b ≡ c → is_passed vs N edge ≡ c
+says vs N edge s t e f g h = sym (g ∙ λ t. is_beside (e t) (f t)) ∙ h
 
 pub loop-edge-init : goal.loop-edge-init
 loop-edge-init c = record {
@@ -39,81 +43,35 @@ loop-edge-init c = record {
     none : {j : ℕ} (k : ℕ) → j ≤ k → k < j → ⊥
     none k h l = omega arith
 
--- The vertex after the one at hand.
-module _ (c : In-loop-edge) where
-  abbrev start : Start
-  start = c.before.before
-
-  more : c.loop-edge.edge + 1 < vertices_count start.args.vertices.now
-  more = omega (arith, c.loop-edge-test.true, start.requires.j_le_last.1)
-
-  few : c.loop-edge.edge + 1 ≤ 4096
-  few = omega (arith, more, start.requires.gridded.2)
-
-pub overflow_add-edge : goal.overflow_add-edge
-overflow_add-edge c = omega (arith, few c)
-
-pub vertex_at-requires : goal.vertex_at-requires
-vertex_at-requires c = omega (arith, more c)
-
-pub side_of-s2-requires : goal.side_of-s2-requires
-side_of-s2-requires c =
-    ((start c.before).requires.gridded.1, rw c.vertex_at.ensures ((start c.before).requires.gridded.0.each _ (more c.before)))
-
--- What the test says of the edge at hand.
-module _ (c : After-is_beside) where
-  abbrev here : In-loop-edge
-  here = c.before.before.before
-
-  abbrev vs : List ℤ
-  vs = (start here).args.vertices.now
-
-  abbrev normal : Point
-  normal = (start here).args.plane.normal
-
-  abbrev edge : ℕ
-  edge = here.loop-edge.edge
-
-  second : sign_of (to_z w64 (of_z w64 c.side_of-s2.result)) ≡ sign_of (side_of vs normal (edge + 1))
-  second =
-      let d = c.side_of-s2 in
-      result_sign w64 d.result d.type_inv (rw c.vertex_at.ensures at d.ensures)
-
-  says : is_passed vs normal edge ≡ c.is_beside.result
-  says = sym (c.is_beside.ensures ∙ λ t. is_beside (here.loop-edge.invariant.known t) (second t))
-
-not_passed : (b : Bool) → not b ≡ true → b ≡ false
-not_passed true e = absurd (true≢false (sym e))
-not_passed false e = refl
-
 pub returns-then-not-is_beside : goal.returns-then-not-is_beside
 returns-then-not-is_beside c =
-    let l = here c.before in
-    let inv = l.loop-edge.invariant in
+    let inv = c.loop-edge.invariant in
+    let vs = c.args.vertices.now in
+    let N = c.args.plane.normal in
+    let edge = c.loop-edge.edge in
+    let end = second vs N edge c.side_of-end.result c.vertex_at.ensures c.side_of-end.type_inv c.side_of-end.ensures in
+    let more : edge + 1 < vertices_count vs = omega (arith, c.loop-edge-test.true, c.requires.j_le_last.1) in
     record {
       after = inv.after;
       before = inv.before;
       passed = inv.passed;
-      stops = λ h. says c.before ∙ c.if-not-is_beside.true;
+      stops = λ h. says vs N edge _ _ inv.known end c.is_beside.ensures c.if-not-is_beside.true;
       start = inv.known;
-      end = second c.before ∙ ap (λ p. sign_of (dot_of (normal c.before) p)) (sym (next_start (vs c.before) (edge c.before) (edge c.before + 1) refl (more l)));
+      end = end ∙ ap (λ p. sign_of (dot_of N p)) (sym (next_start vs edge (edge + 1) refl more));
     }
-
-pub overflow_add-edge-in-loop-edge : goal.overflow_add-edge-in-loop-edge
-overflow_add-edge-in-loop-edge c = omega (arith, few (here c.before))
-
-pub loop-edge-smaller : goal.loop-edge-smaller
-loop-edge-smaller c = omega (arith, (here c.before).loop-edge-test.true)
 
 pub loop-edge-preserved : goal.loop-edge-preserved
 loop-edge-preserved c =
-    let l = here c.before in
-    let inv = l.loop-edge.invariant in
+    let inv = c.loop-edge.invariant in
+    let vs = c.args.vertices.now in
+    let N = c.args.plane.normal in
+    let edge = c.loop-edge.edge in
+    let end = second vs N edge c.side_of-end.result c.vertex_at.ensures c.side_of-end.type_inv c.side_of-end.ensures in
     record {
       after = omega (arith, inv.after);
-      before = omega (arith, l.loop-edge-test.true);
-      passed = λ k h m. one_more (vs c.before) (normal c.before) (says c.before ∙ c.if-not-is_beside.false) inv.passed k h m;
-      known = second c.before;
+      before = omega (arith, c.loop-edge-test.true);
+      passed = λ k h m. one_more vs N (says vs N edge _ _ inv.known end c.is_beside.ensures c.if-not-is_beside.false) inv.passed k h m;
+      known = end;
     }
   where
     one_more : (vs : List ℤ) (N : Point) {j edge : ℕ} → is_passed vs N edge ≡ true →
@@ -125,13 +83,14 @@ pub returns : goal.returns
 returns c =
     let inv = c.loop-edge.invariant in
     let vs = c.args.vertices.now in
-    let e : c.loop-edge.edge + 1 ≡ vertices_count vs = omega (arith, c.loop-edge-test.false, inv.before, c.requires.j_le_last.1) in
+    let all : c.loop-edge.edge ≡ c.args.last = omega (arith, c.loop-edge-test.false, inv.before) in
+    let e : c.args.last + 1 ≡ vertices_count vs = c.requires.j_le_last.1 in
     record {
-      after = inv.after;
-      before = inv.before;
-      passed = inv.passed;
-      stops = λ h. absurd (omega (arith, h, c.loop-edge-test.false));
-      start = inv.known;
+      after = c.requires.j_le_last.0;
+      before = omega arith;
+      passed = λ k h l. inv.passed k h (omega (arith, l, all));
+      stops = λ h. absurd (omega (arith, h));
+      start = inv.known ∙ ap (λ k. sign_of (side_of vs c.args.plane.normal k)) all;
       end = ap sign_of (to_z-of_z w64 c.args.closing c.ranges.closing) ∙ c.requires.side_value.1
           ∙ ap (λ k. sign_of (side_of vs c.args.plane.normal k)) (sym (next_last (vertices_count vs) _ e));
     }

@@ -18,7 +18,7 @@ pub record Scanned (vs : List ℤ) (N : Point) (j last edge : ℕ) (side : ℤ) 
 
 abbrev pub invariant-loop-edge : goal.invariant-loop-edge
 invariant-loop-edge l =
-    Scanned l.vertices l.plane.normal l.j l.last l.edge l.s1
+    Scanned l.vertices l.plane.normal l.j l.last l.edge l.start
 
 abbrev pub decreases-loop-edge : goal.decreases-loop-edge
 decreases-loop-edge l = l.last - l.edge

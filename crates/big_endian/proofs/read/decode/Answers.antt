@@ -8,13 +8,6 @@ use Rattle.big_endian.proofs.Laws.Signed.{held}
 use Rattle.big_endian.proofs.Laws.Rows.{filled_more, filled_again, filled_behind}
 use Rattle.big_endian.proofs.read.decode.Goals as goal
 
-pub decode_eights-requires : goal.decode_eights-requires
-decode_eights-requires c =
-    let s = c.before.before.before in (omega (arith, s.requires.0), omega (arith, s.requires.1))
-
-pub loop-i-init : goal.loop-i-init
-loop-i-init c = (omega arith, refl, filled_again _ _ _ _ c.before.before.decode_eights.ensures)
-
 pub loop-i-preserved : goal.loop-i-preserved
 loop-i-preserved c =
     let l = c.before.before.before.loop-i in

@@ -13,27 +13,6 @@ use Rattle.big_endian.proofs.read.decode_eights.Goals as goal
 pub loop-j-init : goal.loop-j-init
 loop-j-init c = (omega arith, refl, filled_none _ _ _)
 
-pub decode_four-requires : goal.decode_four-requires
-decode_four-requires c =
-    let t = c.before.before in
-    let s = t.before.before.before in (
-      omega (arith, t.loop-j-test.true, s.requires.0),
-      omega (arith, t.loop-j-test.true, s.requires.1, t.before.loop-j.invariant.1),
-    )
-
-pub decode_four-requires-in-loop-j : goal.decode_four-requires-in-loop-j
-decode_four-requires-in-loop-j c =
-    let d = c.before.before.before in
-    let t = d.before.before in
-    let s = t.before.before.before in
-    let k = t.before.loop-j.j * 8 in
-    let row = ints_at s.args.b.now (s.args.at + k * 4) 4 in
-    let e = ap length d.decode_four.ensures ∙ length-sets t.before.loop-j.out k row
-    ∙ t.before.loop-j.invariant.1 in (
-      omega (arith, t.loop-j-test.true, s.requires.0),
-      omega (arith, t.loop-j-test.true, s.requires.1, e),
-    )
-
 pub loop-j-preserved : goal.loop-j-preserved
 loop-j-preserved c =
     let two = c.before.before.decode_four-in-loop-j.ensures in
@@ -59,11 +38,3 @@ loop-j-preserved c =
           ∙ same,
       second ∙ filled_row b at l 4 (j * 8 + 4) (omega arith) ∙ ap (λ (k : ℕ). ints_at b at k ++ drop k l) e,
     )
-
-pub shape_of-out : goal.shape_of-out
-shape_of-out c = c.before.before.loop-j.invariant.1
-
-pub returns : goal.returns
-returns c =
-    let e : c.before.before.loop-j.j ≡ c.before.before.before.before.args.eights = omega arith in
-    rw (← e) c.before.before.loop-j.invariant.2

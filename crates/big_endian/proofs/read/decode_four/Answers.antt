@@ -9,15 +9,6 @@ use Rattle.big_endian.specs.Bytes.{ints_at}
 use Rattle.big_endian.proofs.Laws.Signed.{held}
 use Rattle.big_endian.proofs.read.decode_four.Goals as goal
 
-pub bounds-out-k-2 : goal.bounds-out-k-2
-bounds-out-k-2 c = simp length-set (omega arith)
-
-pub bounds-out-k-3 : goal.bounds-out-k-3
-bounds-out-k-3 c = simp length-set (omega arith)
-
-pub bounds-out-k-4 : goal.bounds-out-k-4
-bounds-out-k-4 c = simp length-set (omega arith)
-
 pub returns : goal.returns
 unfolding ints_at
 returns c =

@@ -7,9 +7,6 @@ use lib.Seq.{take-length}
 use Rattle.big_endian.proofs.Laws.Stores.{bytes_more}
 use Rattle.big_endian.proofs.store.put_bytes.Goals as goal
 
-pub loop-i-init : goal.loop-i-init
-loop-i-init c = (omega arith, refl, refl, refl)
-
 pub loop-i-preserved : goal.loop-i-preserved
 loop-i-preserved c =
     let a = c.before.before.before.before.args in
@@ -17,12 +14,3 @@ loop-i-preserved c =
     let h : l.i < length a.row.now = omega arith in
     let more = bytes_more a.b.now a.at l.i a.row.now h in
     (omega arith, refl, simp length-set l.invariant.2, rw l.invariant.3 more)
-
-pub shape_of-b : goal.shape_of-b
-shape_of-b c = c.before.before.loop-i.invariant.2
-
-pub returns : goal.returns
-returns c =
-    let a = c.before.before.before.args in
-    let e : c.before.before.loop-i.i ≡ length a.row.now = omega arith in
-    c.before.before.loop-i.invariant.3 ∙ rw (e, take-length)

@@ -22,12 +22,3 @@ loop-i-preserved c =
     let p = c.before.before.before.put_int in
     let e = rw (held w32 c.before.before.before.before.put_int-arg-in-loop-i-1.given refl, l.invariant.3) at p.ensures in
     (omega arith, refl, p.auto.b ∙ l.invariant.2, e ∙ ints_more a.b.now a.at l.i a.row.now h)
-
-pub shape_of-b : goal.shape_of-b
-shape_of-b c = c.before.loop-i.invariant.2
-
-pub returns : goal.returns
-returns c =
-    let a = c.before.before.before.args in
-    let e : c.before.loop-i.i ≡ length a.row.now = omega arith in
-    c.before.loop-i.invariant.3 ∙ rw (e, take-length)

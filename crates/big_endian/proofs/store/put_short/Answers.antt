@@ -5,9 +5,6 @@ use lib.ListN.{length-set}
 use Rattle.big_endian.specs.Bytes.{short_bytes}
 use Rattle.big_endian.proofs.store.put_short.Goals as goal
 
-pub bounds-b-at-2 : goal.bounds-b-at-2
-bounds-b-at-2 c = simp length-set (omega arith)
-
 pub returns : goal.returns
 unfolding short_bytes
 returns c = simp towards_suc

@@ -5,15 +5,6 @@ use lib.ListN.{length-set}
 use Rattle.big_endian.specs.Bytes.{word_bytes}
 use Rattle.big_endian.proofs.store.put_word.Goals as goal
 
-pub bounds-b-at-2 : goal.bounds-b-at-2
-bounds-b-at-2 c = simp length-set (omega arith)
-
-pub bounds-b-at-3 : goal.bounds-b-at-3
-bounds-b-at-3 c = simp length-set (omega arith)
-
-pub bounds-b-at-4 : goal.bounds-b-at-4
-bounds-b-at-4 c = simp length-set (omega arith)
-
 pub returns : goal.returns
 unfolding word_bytes
 returns c = simp towards_suc

@@ -4,7 +4,7 @@ use Prim.Native.Nat.{◌<◌}
 use native.Mathlib.Omega.{arith}
 use lib.ListN.{length}
 use Rattle.sphere.specs.declared.point.Point.{Point}
-use Rattle.answer.specs.declared.Answer.{Answer}
+use Rattle.answer.specs.Refusal.{Answer}
 use Rattle.book_feed.specs.Adding.{SameSets}
 use Rattle.book_feed.proofs.Laws.Adding.{nothing_added, added_holds, added_step, added_done}
 use Rattle.book_feed.proofs.judged.add_judged.Invariants.{single}

@@ -7,7 +7,7 @@ use lib.ListN.{length}
 use Rattle.sphere.specs.declared.point.Grid.{Grid}
 use Rattle.sphere.specs.declared.point.Point.{Point}
 use Rattle.sphere.specs.Point.{limit_of}
-use Rattle.answer.specs.declared.Answer.{Answer}
+use Rattle.answer.specs.Refusal.{Answer}
 use Rattle.polygon.specs.Verdict.{answer_of}
 use Rattle.polygon.specs.Pair.{judge_from}
 use Rattle.feed.specs.Feed.{query_count}

@@ -12,10 +12,6 @@ frame_of-frame-requires c =
     let a : Accepted (limit_of v.grid) v.vertices.now v.known = accept_passed q in
     (grid→fine v.grid a.known, accepted_some (limit_of v.grid) v.vertices.now v.known q)
 
-pub put_sectors-requires : goal.put_sectors-requires
-put_sectors-requires c =
-    (c.requires.known_value.0, c.frame_of-frame.ensures, c.requires.known_value.1)
-
 pub grow_roots-size-requires : goal.grow_roots-size-requires
 grow_roots-size-requires c =
     let v = c.args in

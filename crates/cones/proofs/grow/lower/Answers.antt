@@ -22,18 +22,10 @@ first cone = omega arith
 rest : (cone : Cone) (room : ℕ) → Halvable cone room → mid_of cone < cone.last
 rest cone room h = omega (arith, h.some)
 
-pub sift-part-requires : goal.sift-part-requires
-sift-part-requires c =
-    let v = c.args in
-    let p = c.requires in
-    let h = halvable v.cone _ _ c.if-not-may_halve.false c.may_halve.ensures in
-    let small : mid_of v.cone < 65536 = omega (arith, rest v.cone _ h, p.1.below) in record {
-      n_in_bounds = (p.0, first v.cone, small, small);
-      from_le_to = (p.1.complete.some, h.enough, entries p.1.complete.covers);
-    }
-
-pub half_of-requires : goal.half_of-requires
-half_of-requires c = (halvable c.args.cone _ _ c.if-not-may_halve.false c.may_halve.ensures).deep
+pub sift-part-requires-clause-from_le_to : goal.sift-part-requires-clause-from_le_to
+sift-part-requires-clause-from_le_to c =
+    let p = c.requires.1.complete in
+    (p.some, (halvable c.args.cone _ _ c.if-not-may_halve.false c.may_halve.ensures).enough, entries p.covers)
 
 pub returns : goal.returns
 returns c =

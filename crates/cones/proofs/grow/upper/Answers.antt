@@ -5,15 +5,9 @@ use Rattle.cones.proofs.Laws.Covers.{entries}
 use Rattle.cones.proofs.Laws.Split.{half_on_lem}
 use Rattle.cones.proofs.grow.upper.Goals as goal
 
-pub sift-part-requires : goal.sift-part-requires
-sift-part-requires c =
-    let on = c.requires.n_in_bounds.1 in
-    let below = on.below in
-    let first = c.requires.halvable.1 in
-    let rest = c.requires.halvable.2 in record {
-      n_in_bounds = (c.requires.n_in_bounds.0, omega arith, omega arith, omega arith);
-      from_le_to = (on.complete.some, c.requires.halvable.0.enough, entries on.complete.covers);
-    }
+pub sift-part-requires-clause-from_le_to : goal.sift-part-requires-clause-from_le_to
+sift-part-requires-clause-from_le_to c =
+    let p = c.requires.n_in_bounds.1.complete in (p.some, c.requires.halvable.0.enough, entries p.covers)
 
 pub returns : goal.returns
 returns c =

@@ -27,17 +27,3 @@ returns-then-end-to c =
       omega arith,
       c.filter-tail.ensures.1,
     )
-
-pub returns : goal.returns
-returns c =
-    let h = c.filter-tail.ensures.0 in (
-      record {
-        framed = h.framed;
-        after = h.after;
-        some = h.after;
-        within = omega (arith, h.framed.room, h.few, c.requires.from_le_to.1);
-        kept = h.kept;
-      },
-      omega (arith, h.few),
-      c.filter-tail.ensures.1,
-    )

@@ -10,11 +10,6 @@ use Rattle.cones.specs.Lists.{Kept, begin, copy}
 use Rattle.cones.proofs.Laws.Covers.{kept_same}
 use Rattle.cones.proofs.table.copy.Invariants.{Copying, never}
 use Rattle.cones.proofs.table.copy.Goals as goal
-use Rattle.cones.proofs.table.copy.Lts as lts
-use Rattle.cones.proofs.table.copy.Reads as reads
-
-abbrev In-loop-e : Type 0
-In-loop-e = lts.In-loop reads.Pre reads.Post goal.the-invariant-loop-e goal.the-decreases-loop-e
 
 copying_step : (s l m : List ℕ) (from to at e : ℕ) → Copying s l m from to at e → e < to →
     at + (e - from) < length m → Copying s l (set m (at + (e - from)) (get_or s e 0)) from to at (e + 1)
@@ -47,31 +42,7 @@ loop-e-init c =
           none begin;
     }
 
-fits : (c : In-loop-e) →
-    c.args.at + (c.loop-e.e - c.args.from) < length c.loop-e.list
-fits c =
-    let inv = c.loop-e.invariant in
-    omega (arith, c.loop-e-test.true, inv.room, inv.after, c.requires.2)
-
-pub bounds-list-at : goal.bounds-list-at
-bounds-list-at c = fits c.before.before
-
 pub loop-e-preserved : goal.loop-e-preserved
 loop-e-preserved c =
-    copying_step _ _ _ _ _ _ _ c.loop-e.invariant c.loop-e-test.true (fits c.before.before)
-
-pub shape_of-list : goal.shape_of-list
-shape_of-list c = c.loop-e.invariant.room
-
-pub returns : goal.returns
-returns c =
-    let v = c.args in
     let inv = c.loop-e.invariant in
-    let all : c.loop-e.e ≡ v.to = omega (arith, c.loop-e-test.false, inv.within) in
-    record {
-      room = inv.room;
-      before = inv.before;
-      kept =
-          subst (λ e. Kept never v.stack.now c.loop-e.list v.from v.at e (v.at + (e - v.from))) all
-          inv.kept;
-    }
+    copying_step _ _ _ _ _ _ _ inv c.loop-e-test.true (omega (arith, c.loop-e-test.true, inv.room, inv.after))

@@ -7,7 +7,5 @@ pub returns : goal.returns
 returns c =
     let v = c.args in
     let h = c.copy.ensures in
-    rw (c.put_number-4.ensures, c.put_number-3.ensures, c.put_number-2.ensures, c.put_number.ensures)
-    (pushed v.n v.sectors.now v.table.now v.list.now v.nodes v.top (v.cone.to - v.cone.from)
-    c.requires.1 c.requires.2 v.cone.lo v.cone.last _ h.room h.before
-    (copied_covers v.n h c.requires.0.complete.covers))
+    pushed v.n v.sectors.now v.table.now v.list.now v.nodes v.top (v.cone.to - v.cone.from) c.requires.1 c.requires.2
+    v.cone.lo v.cone.last _ h.room h.before (copied_covers v.n h c.requires.0.complete.covers)

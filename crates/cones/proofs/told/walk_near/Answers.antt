@@ -1,145 +1,84 @@
 -- `walk_near` meets its contract: `tell` goes on to the next entry of which it is not sure, and that one is tested.
 use mathlib.Core.Path.{◌≡◌, sym, ◌∙◌, subst}
-use mathlib.Core.List.{List}
-use Prim.Native.Nat.{ℕ, ◌+◌, ◌<◌}
+use Prim.Native.Nat.{ℕ, ◌+◌, ◌≤◌, ◌<◌}
 use native.Mathlib.Omega.{arith}
-use lib.IntN.{ℤ, ◌+ℤ◌}
+use lib.IntN.{ℤ, nat_abs, ◌+ℤ◌}
 use lib.ListN.{get_or}
+use mathlib.Core.Bool.{Bool, true, false, cond}
+use mathlib.Core.List.{List}
 use mir.Syntax.{w32}
 use mir.Val.{SFits, to_z, of_z}
 use mir.ValLaws.{to_z-of_z}
+use Rattle.integers.specs.Sign.{Sign, negative, nought, positive, sign_of, is_zero, unit_of}
+use Rattle.integers.proofs.Size.{known, fits}
+use Rattle.sphere.specs.Crossing.{crossing_of}
 use Rattle.sphere.specs.declared.point.Point.{Point}
-use Rattle.polygon.specs.Vertices.{vertices_count}
+use Rattle.polygon.specs.Vertices.{vertices_count, start_of, end_of}
+use Rattle.polygon.specs.Verdict.{is_on_border, way_of}
 use Rattle.polygon.proofs.Laws.Checks.{accept_passed}
+use Rattle.search.specs.declared.walk.EdgeTest.TheVariants.{Way}
 use Rattle.search.specs.declared.walk.Tally.TheVariants.{Held, Crossed}
-use Rattle.search.specs.Walk.{tally_from, NoneBefore}
+use Rattle.search.specs.Walk.{test_by, tally_from, NoneBefore}
 use Rattle.search.proofs.Laws.Tally.{test_held, test_way, none_start, none_before}
 use Rattle.azimuths.specs.Sectors.{Idle}
-use Rattle.cones.specs.Cones.{Covers, Walked}
-use Rattle.cones.proofs.Laws.Covers.{AtEntry, covers_at, tallied_of, walk_start, walk_held, Added, walk_add}
+use Rattle.cones.specs.declared.told.Told.{Told}
+use Rattle.cones.specs.Cones.{Covers, Complete, Walked}
+use Rattle.cones.proofs.Laws.Covers.{covers_at, tallied_of, walk_start, walk_held, sum_kept, Added, walk_add}
 use Rattle.cones.proofs.told.walk_near.Goals as goal
-use Rattle.cones.proofs.told.walk_near.Goals.{then-e-to, else-e-to+in-OnBorder}
-use Rattle.cones.proofs.told.walk_near.Lts as lts
-use Rattle.cones.proofs.told.walk_near.Reads as reads
-use Rattle.cones.proofs.told.walk_near.Tie as tie
+use Rattle.cones.proofs.told.walk_near.Goals.{then-told-to, else-told-to+in-OnBorder}
 
-abbrev Start : Type 0
-Start = lts.Start tie.the-claims reads.Pre reads.Post goal.the-invariant-loop-e goal.the-decreases-loop-e tie.handed_clauses
+pub loop-told-init : goal.loop-told-init
+loop-told-init c = record { before = omega arith; walked = walk_start }
 
-abbrev After-tell-told : Type 0
-After-tell-told = lts.After-tell tie.the-claims reads.Pre reads.Post goal.the-invariant-loop-e goal.the-decreases-loop-e tie.handed_clauses
+pub test_unsure-requires-clause-i_bound : goal.test_unsure-requires-clause-i_bound
+test_unsure-requires-clause-i_bound c =
+    let a = c.args in
+    let told = c.tell-told.result in
+    let at = covers_at c.requires.complete.covers told.at (omega arith) c.if-told-to.false in
+    let none = none_before _ _ _ (omega arith) (none_start _ _) (tallied_of (c.tell-told.ensures.0.walked.tally _ at.before)) in (
+      omega (arith, c.from-i.ensures, at.below),
+      subst (λ j. NoneBefore a.vertices.now a.query j) (sym c.from-i.ensures) none,
+    )
 
-abbrev After-wide-i : Type 0
-After-wide-i = lts.After-wide tie.the-claims reads.Pre reads.Post goal.the-invariant-loop-e goal.the-decreases-loop-e tie.handed_clauses
-
-abbrev After-test_unsure : Type 0
-After-test_unsure = lts.After-test_unsure tie.the-claims reads.Pre reads.Post goal.the-invariant-loop-e goal.the-decreases-loop-e tie.handed_clauses
-
-abbrev After-counted-crossed : Type 0
-After-counted-crossed = lts.After-counted tie.the-claims reads.Pre reads.Post goal.the-invariant-loop-e goal.the-decreases-loop-e tie.handed_clauses
-
-pub loop-e-init : goal.loop-e-init
-loop-e-init c = record { before = omega arith; walked = walk_start }
-
-pub tell-told-requires : goal.tell-told-requires
-tell-told-requires c =
-    record {
-      known_value = c.requires.known_value;
-      telling = c.requires.telling;
-      complete = (c.requires.complete, c.loop-e.invariant);
-    }
-
-pub bounds-list-e : goal.bounds-list-e
-bounds-list-e c =
-    omega (arith, c.if-e-to.false, c.requires.complete.within)
-
--- What was told, and the entry to which it came.
-module _ (c : After-wide-i) where
-  abbrev told : After-tell-told
-  told = c.before.before.before.before
-
-  abbrev entry : Start
-  entry = told.before.before.before.before
-
-  abbrev vs : List ℤ
-  vs = entry.args.vertices.now
-
-  abbrev X : Point
-  X = entry.args.known
-
-  abbrev P : Point
-  P = entry.args.query
-
-  abbrev l : List ℕ
-  l = entry.args.list.now
-
-  abbrev e : ℕ
-  e = told.tell-told.result.at
-
-  less : e < entry.args.to
-  less = c.if-e-to.false
-
-  at : AtEntry (Idle vs X P) l 0 (vertices_count vs) e
-  at = covers_at entry.requires.complete.covers e (omega arith) less
-
-  walked : Walked vs X P l e told.tell-told.result.crossed (to_z w32 (of_z w32 told.tell-told.result.sum))
-  walked =
-      let fit : SFits w32 told.tell-told.result.sum =
-      record { sfits = c.struct_told-1.given.1.1.0.1 } in
-      rw (to_z-of_z w32 _ fit) told.tell-told.ensures.0.walked
-
-pub test_unsure-requires : goal.test_unsure-requires
-test_unsure-requires c =
-    let none = none_before _ _ _ (omega arith) (none_start _ _) (tallied_of ((walked c.before).tally _ (at c.before).before)) in record {
-      known_value = (entry c.before).requires.known_value;
-      i_bound = (
-        omega (arith, c.wide-i.ensures.0, (at c.before).below),
-        subst (λ j. NoneBefore (vs c.before) (P c.before) j) (sym c.wide-i.ensures.0) none,
-      );
-      complete = (entry c.before).requires.complete;
-    }
+-- The edge's way, as it is held.
+way_fits : (held : Bool) (s : Sign) (way : ℤ) → test_by held (unit_of s) ≡ Way way → SFits w32 way
+way_fits true s way e = cc
+way_fits false s way e = let same : unit_of s ≡ way = cc in fits (known {z = way} {n = 1} (rw (← same) (small s))) (omega arith)
+  where
+    small : (s : Sign) → nat_abs (unit_of s) ≤ 1
+    small negative = omega arith
+    small nought = omega arith
+    small positive = omega arith
 
 -- The edge is tallied.
-module _ (c : After-counted-crossed) where
-  abbrev tested : After-test_unsure
-  tested = c.before.before
+added : {vs : List ℤ} {X P : Point} {l : List ℕ} {to i : ℕ} {d : ℕ} (told : Told) (way : ℤ) → vertices_count vs ≤ 4096 →
+    Complete (Idle vs X P) (vertices_count vs) l 0 to → told.at < to → Walked vs X P l told.at told.crossed told.sum →
+    i ≡ get_or l told.at 0 → test_by (is_on_border vs P i) (way_of vs X P i) ≡ Way way →
+    d ≡ cond (is_zero (sign_of (to_z w32 (of_z w32 way)))) 0 1 →
+    Added vs X P l told.at (told.crossed + d) (to_z w32 (of_z w32 told.sum) +ℤ to_z w32 (of_z w32 way))
+added {vs} {X} {P} {i = i} {d = d} told way most all less walked same is count =
+    let fit = way_fits (is_on_border vs P i) (crossing_of X P (start_of vs i) (end_of vs i)) way is in
+    let one = test_way vs X P i is (rw (to_z-of_z w32 way fit) at count) in
+    walk_add told.sum way most fit (covers_at all.covers told.at (omega arith) less) walked
+    (subst (λ j. tally_from vs X P j 1 ≡ Crossed d way) same one)
 
-  abbrev w : After-wide-i
-  w = tested.before
+pub overflow_add-told : goal.overflow_add-told
+overflow_add-told c =
+    let a = added c.tell-told.result c.in-Way.way (accept_passed c.requires.known_value.0).listed.most c.requires.complete
+    c.if-told-to.false c.tell-told.ensures.0.walked c.from-i.ensures (sym c.test_unsure.ensures ∙ c.in-Way.is) c.counted.ensures in
+    omega (arith, a.few)
 
-  abbrev way : ℤ
-  way = c.in-Way.way
+pub overflow_add-told-in-loop-told : goal.overflow_add-told-in-loop-told
+overflow_add-told-in-loop-told c =
+    let a = added c.tell-told.result c.in-Way.way (accept_passed c.requires.known_value.0).listed.most c.requires.complete
+    c.if-told-to.false c.tell-told.ensures.0.walked c.from-i.ensures (sym c.test_unsure.ensures ∙ c.in-Way.is) c.counted.ensures in
+    a.fits
 
-  fit : SFits w32 way
-  fit = record { sfits = c.in-Way.known_told-1-own.given.0.1 }
-
-  one : tally_from (vs w) (X w) (P w) (get_or (l w) (e w) 0) 1 ≡ Crossed c.counted-crossed.result way
-  one =
-      subst (λ j. tally_from (vs w) (X w) (P w) j 1 ≡ Crossed c.counted-crossed.result way) w.wide-i.ensures.0
-      (test_way (vs w) (X w) (P w) w.wide-i.result
-      (sym tested.test_unsure.ensures ∙ c.in-Way.is)
-      (rw (to_z-of_z w32 way fit) at c.counted-crossed.ensures))
-
-  added : Added (vs w) (X w) (P w) (l w) (e w) ((told w).tell-told.result.crossed + c.counted-crossed.result)
-      (to_z w32 (of_z w32 (told w).tell-told.result.sum) +ℤ to_z w32 (of_z w32 way))
-  added =
-      walk_add (of_z w32 (told w).tell-told.result.sum) way (accept_passed (entry w).requires.known_value.0).listed.most fit (at w)
-      (walked w) one
-
-pub overflow_add-crossed : goal.overflow_add-crossed
-overflow_add-crossed c = omega (arith, (added c.before).few)
-
-pub overflow_add-sum : goal.overflow_add-sum
-overflow_add-sum c = (added c.before).fits
-
-pub overflow_add-e : goal.overflow_add-e
-overflow_add-e c = omega (arith, less (w c.before), (entry (w c.before)).ranges.to)
-
-pub loop-e-smaller : goal.loop-e-smaller
-loop-e-smaller c = omega (arith, less (w c.before), (told (w c.before)).tell-told.ensures.1)
-
-pub loop-e-preserved : goal.loop-e-preserved
-loop-e-preserved c = record { before = omega (arith, less (w c.before)); walked = (added c.before).walked }
+pub loop-told-preserved : goal.loop-told-preserved
+loop-told-preserved c =
+    let a = added c.tell-told.result c.in-Way.way (accept_passed c.requires.known_value.0).listed.most c.requires.complete
+    c.if-told-to.false c.tell-told.ensures.0.walked c.from-i.ensures (sym c.test_unsure.ensures ∙ c.in-Way.is) c.counted.ensures in
+    record { before = omega (arith, c.if-told-to.false); walked = a.walked }
 
 -- Where the loop is left: all entries are passed, or the edge of the entry at hand holds the query.
 pub returns : goal.returns
@@ -149,16 +88,14 @@ returns c =
     let n = vertices_count v in
     let come = c.tell-told.ensures.0 in
     let all = c.requires.complete.covers in
-    let sum = c.tell-told.result.sum in
-    let fit : SFits w32 sum = record { sfits = c.struct_told-1.given.1.1.0.1 } in
-    c.tally_by.ensures ∙ elim c.if-e-to.branch [
-      | then-e-to r ↦
-          let last : a.to ≡ c.tell-told.result.at = omega (arith, r.if-e-to.true, come.before) in
+    c.tally_by.ensures ∙ elim c.if-told-to.branch [
+      | then-told-to r ↦
+          let last : a.to ≡ c.tell-told.result.at = omega (arith, r.if-told-to.true, come.before) in
           let whole = come.walked.tally n
           (subst (λ b. Covers (Idle v a.known a.query) a.list.now 0 n b) last all) in
-          rw (r.found-is, to_z-of_z w32 sum fit) (sym whole)
-      | else-e-to+in-OnBorder r ↦
-          let held = subst (λ j. tally_from v a.known a.query j 1 ≡ Held r.wide-i.result) r.wide-i.ensures.0
-          (test_held v a.known a.query r.wide-i.result (sym r.test_unsure.ensures ∙ r.in-OnBorder.is)) in
-          rw r.found-is (sym (walk_held r.if-e-to.false all come.walked held))
+          rw (r.found-is, sum_kept v a.known a.query (accept_passed c.requires.known_value.0).listed.most whole) (sym whole)
+      | else-told-to+in-OnBorder r ↦
+          let held = subst (λ j. tally_from v a.known a.query j 1 ≡ Held r.from-i.result) r.from-i.ensures
+          (test_held v a.known a.query r.from-i.result (sym r.test_unsure.ensures ∙ r.in-OnBorder.is)) in
+          rw r.found-is (sym (walk_held r.if-told-to.false all come.walked held))
     ]

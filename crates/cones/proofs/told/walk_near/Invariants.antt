@@ -3,9 +3,8 @@ use Prim.Native.Nat.{◌-◌}
 use Rattle.cones.specs.Cones.{Coming}
 use Rattle.cones.proofs.told.walk_near.Given as goal
 
-abbrev pub invariant-loop-e : goal.invariant-loop-e
-invariant-loop-e l =
-    Coming l.vertices l.known l.query l.list l.to (record { at = l.e; crossed = l.crossed; sum = l.sum })
+abbrev pub invariant-loop-told : goal.invariant-loop-told
+invariant-loop-told l = Coming l.vertices l.known l.query l.list l.to l.told
 
-abbrev pub decreases-loop-e : goal.decreases-loop-e
-decreases-loop-e l = l.to - l.e
+abbrev pub decreases-loop-told : goal.decreases-loop-told
+decreases-loop-told l = l.to - l.told.at

@@ -15,8 +15,8 @@ pub record Counted (vs : List ℤ) (C D : Point) (from to : ℕ) (marks now : Li
   pub counted : count_from (is_coincident vs C D) from (j - from) ≡ count
   pub marked : Marked (is_coincident vs C D) from j marks now
 
-abbrev pub invariant-loop-j : goal.invariant-loop-j
-invariant-loop-j l = Counted l.vertices l.c l.d l.from l.to l.initial.marks l.marks l.count l.j
+abbrev pub invariant-loop-edge : goal.invariant-loop-edge
+invariant-loop-edge l = Counted l.vertices l.c l.d l.from l.to l.initial.marks l.marks l.count l.j
 
-abbrev pub decreases-loop-j : goal.decreases-loop-j
-decreases-loop-j l = l.to - l.j
+abbrev pub decreases-loop-edge : goal.decreases-loop-edge
+decreases-loop-edge l = l.to - l.j

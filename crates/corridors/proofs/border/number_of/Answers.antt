@@ -1,19 +1,21 @@
--- `number_of` meets its contract.
-use mir.Syntax.{w64}
-use mir.ValLaws.{to_z-of_z}
-use borrow.Author.Tests.{eq-eqb, ne_eqb}
-use Rattle.sphere.proofs.Numbers.{words_of}
+-- `number_of` meets its contract: the plane's normal is the cross product, whose numbers fit.
+use Rattle.integers.proofs.Range.{formula_same}
+use Rattle.sphere.specs.Plane.{plane_of}
+use Rattle.sphere.proofs.Numbers.{x_of, y_of, z_of}
+use Rattle.sphere.proofs.Laws.Grid.{cross_within}
 use Rattle.corridors.proofs.border.number_of.Goals as goal
 
-pub returns-then-axis-eq0 : goal.returns-then-axis-eq0
-returns-then-axis-eq0 c = rw (eq-eqb _ 0 c.before.if-axis-eq0.true) (to_z-of_z w64 _ (words_of c.before.before.args.n c.struct_told-1.given).at_x)
+pub returns-in-X : goal.returns-in-X
+unfolding plane_of
+returns-in-X c =
+    rw (c.plane_through-plane.ensures, c.in-X.is) (formula_same (x_of (cross_within c.args.c c.args.p c.requires.0 c.requires.1)) tt)
 
-pub returns-then-axis-eq1 : goal.returns-then-axis-eq1
-returns-then-axis-eq1 c =
-    rw (ne_eqb _ 0 c.before.before.if-axis-eq0.false, eq-eqb _ 1 c.before.if-axis-eq1.true)
-    (to_z-of_z w64 _ (words_of c.before.before.before.args.n c.struct_told-then-axis-eq1-1.given).at_y)
+pub returns-in-Y : goal.returns-in-Y
+unfolding plane_of
+returns-in-Y c =
+    rw (c.plane_through-plane.ensures, c.in-Y.is) (formula_same (y_of (cross_within c.args.c c.args.p c.requires.0 c.requires.1)) tt)
 
-pub returns : goal.returns
-returns c =
-    rw (ne_eqb _ 0 c.before.before.if-axis-eq0.false, ne_eqb _ 1 c.before.if-axis-eq1.false)
-    (to_z-of_z w64 _ (words_of c.before.before.before.args.n c.struct_told-2-1.given).at_z)
+pub returns-in-Z : goal.returns-in-Z
+unfolding plane_of
+returns-in-Z c =
+    rw (c.plane_through-plane.ensures, c.in-Z.is) (formula_same (z_of (cross_within c.args.c c.args.p c.requires.0 c.requires.1)) tt)

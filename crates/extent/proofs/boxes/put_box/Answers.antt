@@ -1,65 +1,17 @@
 -- `put_box` meets its contract.
-use mathlib.Core.Path.{◌≡◌, sym, ◌∙◌}
-use native.Mathlib.Omega.{arith}
-use lib.ListN.{length}
-use Rattle.answer.specs.declared.Check.TheVariants.{Passed}
-use Rattle.sheet.specs.Sheet.{sheet_check}
-use Rattle.extent.specs.Sides.{whole_sides}
-use Rattle.extent.specs.Boxes.{box_check}
-use Rattle.extent.proofs.Laws.Told.{failed_passed}
-use Rattle.extent.proofs.Reach.{box_short, box_long, told_holds, told_range}
+use mathlib.Core.Path.{ap, ◌∙◌}
+use Rattle.std.specs.Option.{unwrap_or}
+use Rattle.extent.proofs.Reach.{box_short, box_long, box_kept, box_put}
 use Rattle.extent.proofs.boxes.put_box.Goals as goal
-use Rattle.extent.proofs.boxes.put_box.Lts as lts
-use Rattle.extent.proofs.boxes.put_box.Reads as reads
-use Rattle.extent.proofs.boxes.put_box.Tie as tie
 
-abbrev Start : Type 0
-Start = lts.Start tie.the-claims reads.Pre reads.Post tie.handed_clauses
+pub returns-then-out-lt24-clause-box_after : goal.returns-then-out-lt24-clause-box_after
+returns-then-out-lt24-clause-box_after c = box_kept _ _ (box_short c.args.sheet.now _ c.if-out-lt24.true)
 
-abbrev In-Passed : Type 0
-In-Passed = lts.Past-After-enum_told tie.the-claims reads.Pre reads.Post tie.handed_clauses
+pub returns-in-Ok-clause-box_after : goal.returns-in-Ok-clause-box_after
+returns-in-Ok-clause-box_after c =
+    box_put c.args.sheet.now _ _ c.in-Ok.ensures c.if-out-lt24.false
+    (c.unwrap_or.ensures ∙ ap (unwrap_or c.in-Ok.extent.own) c.whole.ensures) c.store.ensures
 
-module _ (t : In-Passed) where
-  abbrev start : Start
-  start = t.before.before.before.before.before
-
-  checked : sheet_check start.args.sheet.now ≡ Passed
-  checked = sym t.measure-extent.ensures.checked ∙ t.in-Passed.is
-
-  passed : box_check start.args.sheet.now (length start.args.out.now) ≡ Passed
-  passed = box_long start.args.sheet.now _ t.if-out-lt24.false ∙ checked
-
-pub returns-then-out-lt24 : goal.returns-then-out-lt24
-returns-then-out-lt24 c =
-    let i = c.args in
-    let e = box_short i.sheet.now (length i.out.now) c.if-out-lt24.true in
-    record {
-      value = rw e;
-      box_after = record { sides = whole_sides; holds = λ p. failed_passed (sym e ∙ p); same = rw e };
-    }
-
-pub returns-in-Failed : goal.returns-in-Failed
-returns-in-Failed c =
-    let i = c.args in
-    let e = box_long i.sheet.now (length i.out.now) c.if-out-lt24.false
-    ∙ sym c.measure-extent.ensures.checked ∙ c.in-Failed.is in
-    record {
-      value = rw e;
-      box_after = record { sides = whole_sides; holds = λ p. failed_passed (sym e ∙ p); same = rw e };
-    }
-
-pub store-requires : goal.store-requires
-store-requires c =
-    let h = c.if-out-lt24.false in
-    (omega arith, told_range (start c.before.before.before).args.sheet.now c.measure-extent.result (checked c.before.before.before) c.measure-extent.ensures)
-
-pub returns : goal.returns
-returns c =
-    let m = c.measure-extent in record {
-      value = rw (passed c.before.before.before.before.before.before);
-      box_after = record {
-        sides = m.result.sides;
-        holds = λ _. told_holds (start c.before.before.before.before.before.before).args.sheet.now m.result (checked c.before.before.before.before.before.before) m.ensures;
-        same = rw (passed c.before.before.before.before.before.before) c.store.ensures;
-      };
-    }
+pub returns-in-Err-clause-box_after : goal.returns-in-Err-clause-box_after
+returns-in-Err-clause-box_after c =
+    box_kept _ _ (box_long c.args.sheet.now _ c.if-out-lt24.false ∙ c.in-Err.ensures)

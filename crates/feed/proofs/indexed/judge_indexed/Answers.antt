@@ -10,7 +10,8 @@ use Rattle.sphere.specs.declared.point.Point.{Point}
 use Rattle.sphere.specs.Point.{limit_of, Within, is_off_grid}
 use Rattle.sphere.specs.Direction.{is_antipodal}
 use Rattle.sphere.proofs.Laws.Grid.{off-grid→within}
-use Rattle.answer.specs.declared.Check.TheVariants.{Passed}
+use Rattle.std.specs.declared.result.Result.TheVariants.{Ok}
+use Rattle.answer.specs.declared.Reason.TheVariants.{QueryAntipodal, QueryOffGrid}
 use Rattle.answer.specs.Chain.{fails_if}
 use Rattle.polygon.specs.Checks.{accept_check, query_check, far_check, judge_check}
 use Rattle.polygon.specs.Verdict.{answer_of}
@@ -30,13 +31,13 @@ abbrev Else-is_left_out : Type 0
 Else-is_left_out = lts.Else1 tie.the-claims reads.Pre reads.Post tie.handed_clauses
 
 -- Lines 17 and 18 pass.
-on_grid_lem : (limit : ℕ) (P : Point) → is_off_grid limit P ≡ false → query_check limit P ≡ Passed
+on_grid_lem : (limit : ℕ) (P : Point) → is_off_grid limit P ≡ false → query_check limit P ≡ Ok tt
 unfolding query_check
-on_grid_lem limit P e = ap (fails_if 17) e
+on_grid_lem limit P e = ap (fails_if QueryOffGrid) e
 
-near : (X P : Point) → is_antipodal X P ≡ false → far_check X P ≡ Passed
+near : (X P : Point) → is_antipodal X P ≡ false → far_check X P ≡ Ok tt
 unfolding far_check
-near X P e = ap (fails_if 18) e
+near X P e = ap (fails_if QueryAntipodal) e
 
 neither : (a b : Bool) → (a || b) ≡ false → (a ≡ false) × (b ≡ false)
 neither true b e = absurd (true≢false e)
@@ -46,7 +47,7 @@ not_zero : (n : ℕ) → eqb n 0 ≡ false → 0 < n
 not_zero n e = ⊎_elim (λ z. absurd (eqb-false n 0 e z)) (λ h. h) (eq-zero-or-pos n)
 
 -- The known point is accepted.
-accepted : (s : Start) → accept_check (limit_of s.args.grid) s.args.vertices.now s.args.known ≡ Passed
+accepted : (s : Start) → accept_check (limit_of s.args.grid) s.args.vertices.now s.args.known ≡ Ok tt
 accepted s =
     optional_first (limit_of s.args.grid) s.args.vertices.now s.args.known s.args.second s.requires.second_value.0
 

@@ -1,11 +1,10 @@
 -- `judge_boxed` meets its contract: on each way the checks that passed decide the definition's chain.
-use mathlib.Core.Path.{◌≡◌, sym, ◌∙◌, ap}
-use Rattle.sphere.specs.declared.point.Point.{Point}
+use Rattle.std.proofs.Common.{rules, ◌≡◌, sym, ◌∙◌, ap}
+use Rattle.std.specs.declared.result.Result.TheVariants.{Ok}
 use Rattle.sphere.specs.Point.{limit_of}
 use Rattle.sphere.proofs.Laws.Plane.{grid→fine}
-use Rattle.answer.specs.declared.Check.TheVariants.{Passed}
 use Rattle.polygon.specs.Vertices.{vertices_count}
-use Rattle.polygon.specs.Checks.{accept_check, query_check, far_check, judge_check}
+use Rattle.polygon.specs.Checks.{query_check, far_check, judge_check}
 use Rattle.polygon.specs.Pair.{judge_from}
 use Rattle.polygon.specs.Verdict.{answer_of}
 use Rattle.polygon.proofs.Laws.Checks.{accept_passed, query_passed}
@@ -14,81 +13,61 @@ use Rattle.search.specs.Walk.{tally_from, looked_from, looked_in}
 use Rattle.judging.specs.Judge.{verdict_on, looked_of}
 use Rattle.judging.proofs.Laws.Judge.{verdict_tally, none_looked}
 use Rattle.judging.proofs.judge.judge_boxed.Goals as goal
-use Rattle.judging.proofs.judge.judge_boxed.Goals.{In-Passed}
-use Rattle.judging.proofs.judge.judge_boxed.Lts as lts
-use Rattle.judging.proofs.judge.judge_boxed.Reads as reads
-use Rattle.judging.proofs.judge.judge_boxed.Tie as tie
 
-abbrev Start : Type 0
-Start = lts.Start tie.the-claims reads.Pre reads.Post
-
-abbrev After-far_check : Type 0
-After-far_check = lts.After-far_check tie.the-claims reads.Pre reads.Post
-
--- The point that judges is accepted.
-module _ (s : Start) where
-  abbrev from : Point
-  from = judge_from s.args.known s.args.second s.args.query
-
-  accepted : accept_check (limit_of s.args.grid) s.args.vertices.now from ≡ Passed
-  accepted =
-      judge_accepted (limit_of s.args.grid) s.args.vertices.now s.args.known s.args.second s.requires.0
-      s.args.query
-
--- What passed, where the next check begins.
-queried : (c : In-Passed) → query_check (limit_of c.args.grid)
-    c.args.query ≡ Passed
-queried c = sym c.query_check.ensures ∙ c.in-Passed.is
-
-far : (c : After-far_check) →
-    c.far_check.result ≡ far_check (from c.before.before.before.before) c.args.query
-far c =
-    c.far_check.ensures ∙ ap (λ p. far_check p c.args.query) c.judge_from-from.ensures
-
-pub returns-in-Failed : goal.returns-in-Failed
+pub returns-in-Err : goal.returns-in-Err
 unfolding answer_of looked_of judge_check
-returns-in-Failed c =
-    let e = sym c.query_check.ensures ∙ c.in-Failed.is in (
-      rw (accepted c.before.before.before, e) c.unjudged.ensures.0,
-      rw (accepted c.before.before.before, e) (c.unjudged.ensures.1 ∙ none_looked c.args.mode),
-    )
+returns-in-Err c =
+    let s = c.args in
+    let a = judge_accepted (limit_of s.grid) s.vertices.now s.known s.second c.requires.0 s.query in
+    let e = sym c.query_check.ensures ∙ c.in-Err.is in
+    (rw (a, e) c.unjudged.ensures.0, rw (a, e) (c.unjudged.ensures.1 ∙ none_looked s.mode))
 
 pub judge_from-from-requires : goal.judge_from-from-requires
 judge_from-from-requires c =
-    let a = c.args in
-    let first = optional_first (limit_of a.grid) a.vertices.now a.known a.second c.requires.0 in
-    (grid→fine a.grid (accept_passed first).known, grid→fine a.grid (query_passed (queried c)))
+    let s = c.args in
+    let first = optional_first (limit_of s.grid) s.vertices.now s.known s.second c.requires.0 in
+    let queried : query_check (limit_of s.grid) s.query ≡ Ok tt = search rules in
+    (grid→fine s.grid (accept_passed first).known, grid→fine s.grid (query_passed queried))
 
 pub far_check-requires : goal.far_check-requires
 far_check-requires c =
-    let g = c.args.grid in (
-      rw c.judge_from-from.ensures (grid→fine g (accept_passed (accepted c.before.before.before)).known),
-      grid→fine g (query_passed (queried c.before)),
-    )
+    let s = c.args in
+    let a = judge_accepted (limit_of s.grid) s.vertices.now s.known s.second c.requires.0 s.query in
+    let queried : query_check (limit_of s.grid) s.query ≡ Ok tt = search rules in
+    (rw c.judge_from-from.ensures (grid→fine s.grid (accept_passed a).known), grid→fine s.grid (query_passed queried))
 
-pub returns-in-Failed-far_check : goal.returns-in-Failed-far_check
+pub returns-in-Err-far_check : goal.returns-in-Err-far_check
 unfolding answer_of looked_of judge_check
-returns-in-Failed-far_check c =
-    let e = sym (far c.before.before) ∙ c.in-Failed-far_check.is in (
-      rw (accepted c.before.before.before.before.before.before, queried c.before.before.before.before, e) c.unjudged-in-Failed-far_check.ensures.0,
-      rw (accepted c.before.before.before.before.before.before, queried c.before.before.before.before, e) (c.unjudged-in-Failed-far_check.ensures.1 ∙ none_looked c.args.mode),
+returns-in-Err-far_check c =
+    let s = c.args in
+    let a = judge_accepted (limit_of s.grid) s.vertices.now s.known s.second c.requires.0 s.query in
+    let queried : query_check (limit_of s.grid) s.query ≡ Ok tt = search rules in
+    let e = rw c.judge_from-from.ensures at c.far_check.ensures in
+    let far = sym e ∙ c.in-Err-far_check.is in (
+      rw (a, queried, far) c.unjudged-in-Err-far_check.ensures.0,
+      rw (a, queried, far) (c.unjudged-in-Err-far_check.ensures.1 ∙ none_looked s.mode),
     )
 
 pub search_edges-searched-requires : goal.search_edges-searched-requires
 search_edges-searched-requires c =
-    (rw c.judge_from-from.ensures (accepted c.before.before.before.before.before), query_passed (queried c.before.before.before), c.requires.1)
+    let s = c.args in
+    let a = judge_accepted (limit_of s.grid) s.vertices.now s.known s.second c.requires.0 s.query in
+    let queried : query_check (limit_of s.grid) s.query ≡ Ok tt = search rules in
+    (rw c.judge_from-from.ensures a, query_passed queried, c.requires.1)
 
 pub returns : goal.returns
 unfolding answer_of looked_of judge_check
 returns c =
-    let a = c.args in
-    let vs = a.vertices.now in
-    let found = c.search_edges-searched.ensures in
+    let s = c.args in
+    let vs = s.vertices.now in
+    let from = judge_from s.known s.second s.query in
+    let a = judge_accepted (limit_of s.grid) vs s.known s.second c.requires.0 s.query in
+    let queried : query_check (limit_of s.grid) s.query ≡ Ok tt = search rules in
     let by = c.judge_from-from.ensures in
-    let passed = sym (far c.before.before.before) ∙ c.in-Passed-far_check.is in
-    let tally = found.0 ∙ ap (λ p. tally_from vs p a.query 0 (vertices_count vs)) by in (
-      rw (accepted c.before.before.before.before.before.before.before, queried c.before.before.before.before.before, passed)
-          (c.verdict_on.ensures ∙ ap verdict_on tally ∙ verdict_tally vs (from c.before.before.before.before.before.before.before) a.query),
-      rw (accepted c.before.before.before.before.before.before.before, queried c.before.before.before.before.before, passed)
-          (found.1 ∙ ap (λ p. looked_in a.mode (looked_from vs p a.query 0 (vertices_count vs))) by),
+    let far_from : far_check c.judge_from-from.result s.query ≡ Ok tt = search rules in
+    let far : far_check from s.query ≡ Ok tt = sym (ap (λ p. far_check p s.query) by) ∙ far_from in
+    let found = c.search_edges-searched.ensures in
+    let tally = found.0 ∙ ap (λ p. tally_from vs p s.query 0 (vertices_count vs)) by in (
+      rw (a, queried, far) (c.verdict_on.ensures ∙ ap verdict_on tally ∙ verdict_tally vs from s.query),
+      rw (a, queried, far) (found.1 ∙ ap (λ p. looked_in s.mode (looked_from vs p s.query 0 (vertices_count vs))) by),
     )

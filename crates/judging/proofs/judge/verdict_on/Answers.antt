@@ -3,9 +3,9 @@ use mathlib.Core.Path.{◌∙◌, ap}
 use mir.Syntax.{w32}
 use mir.Val.{SFits}
 use mir.ValLaws.{to_z-of_z}
-use Rattle.answer.specs.declared.Found.TheVariants.{Nothing}
 use Rattle.polygon.specs.Verdict.{verdict_by}
 use Rattle.judging.proofs.judge.verdict_on.Goals as goal
+use Rattle.std.specs.declared.option.Option.TheVariants.{None}
 
 pub returns-in-Held : goal.returns-in-Held
 returns-in-Held c = rw c.in-Held.is
@@ -14,4 +14,4 @@ pub returns-in-Crossed : goal.returns-in-Crossed
 returns-in-Crossed c =
     let held = c.in-Crossed in
     let small : SFits w32 held.sum = record { sfits = held.known_told-in-Crossed-1-own.given.1.0.1 } in
-    rw held.is (c.by_parity.ensures ∙ ap (verdict_by Nothing held.crossed) (to_z-of_z w32 held.sum small))
+    rw held.is (c.by_parity.ensures ∙ ap (verdict_by None held.crossed) (to_z-of_z w32 held.sum small))

@@ -1,22 +1,12 @@
 -- `earliest` meets its contract: no candidate before i passed.
-use mathlib.Core.Bool.{Bool}
-use mathlib.Core.List.{List}
-use Prim.Native.Nat.{ℕ, ◌-◌, ◌≤◌}
-use lib.IntN.{ℤ}
+use Rattle.std.proofs.Common.{◌≡◌, ◌<◌, ◌≤◌, ℕ}
 use Rattle.sphere.specs.declared.point.Point.{Point}
-use Rattle.sphere.specs.declared.point.Grid.{Grid}
 use Rattle.sphere.specs.Point.{limit_of}
-use Rattle.polygon.specs.Vertices.{vertices_count, vertex_at}
 use Rattle.polygon.specs.Pair.{is_second}
 use Rattle.answer.proofs.Laws.Search.{Searched}
 use Rattle.judging.proofs.second.earliest.Given as goal
 
-abbrev pub passes : Grid → List ℤ → Point → List ℤ → ℕ → Bool
-passes grid vs X cs i = is_second (limit_of grid) vs X (vertex_at cs i)
-
 abbrev pub invariant-loop-i : goal.invariant-loop-i
-invariant-loop-i l =
-    (l.i ≤ vertices_count l.candidates) × Searched (passes l.grid l.vertices l.known l.candidates) (vertices_count l.candidates) l.i
-
-abbrev pub decreases-loop-i : goal.decreases-loop-i
-decreases-loop-i l = l.n - l.i
+invariant-loop-i g l =
+    (l.i ≤ l.n) × ((points : ℕ → Point) → ((j : ℕ) (p : Point) → j < l.n → goal.F-post g l.candidate j p → p ≡ points j) →
+    Searched (λ i. is_second (limit_of l.grid) l.vertices l.known (points i)) l.n l.i)

@@ -3,12 +3,6 @@ use borrow.Author.Tests.{eqb-true}
 use Rattle.polygon.proofs.Laws.Quick.{near_passed}
 use Rattle.polygon.proofs.quick.is_near.Goals as goal
 
-pub count_far-requires : goal.count_far-requires
-count_far-requires c = c.before.requires
-
-pub count_far-requires-in-Fine : goal.count_far-requires-in-Fine
-count_far-requires-in-Fine c = c.before.requires
-
 pub returns-in-Coarse : goal.returns-in-Coarse
 returns-in-Coarse c =
     let f = c.count_far in

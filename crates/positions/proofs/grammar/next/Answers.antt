@@ -15,6 +15,6 @@ returns c =
     c.literal_next.ensures
     ∙ rw (
       sym c.is_ring.ensures ∙ c.if-is_ring.false,
-      c.wide.ensures,
+      c.from.ensures,
       c.class_of-2.ensures.0,
     )

@@ -18,16 +18,6 @@ returns-then-unit-eq0 c =
       eq-eqb _ _ c.if-unit-eq0.true,
     )
 
-pub overflow_mul-d-2 : goal.overflow_mul-d-2
-overflow_mul-d-2 c =
-    let q : c.args.p.unit / 10 ≤ 1000000 =
-    omega arith in let h = mul-le-mul c.requires.1 q in omega arith
-
-pub overflow_add-p-2 : goal.overflow_add-p-2
-overflow_add-p-2 c =
-    let q : c.args.p.unit / 10 ≤ 1000000 =
-    omega arith in let h = mul-le-mul c.requires.1 q in omega arith
-
 pub returns : goal.returns
 unfolding digit_of
 returns c =

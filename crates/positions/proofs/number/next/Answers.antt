@@ -9,21 +9,21 @@ use Rattle.positions.specs.Number.{pending_of}
 use Rattle.positions.proofs.Numbers.{lon_of, digit_range}
 use Rattle.positions.proofs.number.next.Goals as goal
 
-pub overflow_sub-wide : goal.overflow_sub-wide
-overflow_sub-wide c =
-    rw c.wide.ensures (digit_range _ (sym c.is_digit.ensures ∙ c.if-is_digit.true)).0
+pub overflow_sub-from : goal.overflow_sub-from
+overflow_sub-from c =
+    rw c.from.ensures (digit_range _ (sym c.is_digit.ensures ∙ c.if-is_digit.true)).0
 
 pub digit-requires : goal.digit-requires
 digit-requires c =
     let h = digit_range _ (sym c.is_digit.ensures ∙ c.if-is_digit.true) in let e =
-    c.wide.ensures in (c.requires, omega arith)
+    c.from.ensures in (c.requires, omega arith)
 
 pub returns-then-is_digit : goal.returns-then-is_digit
 unfolding pending_of
 returns-then-is_digit c =
     c.digit.ensures ∙ rw (
       sym c.is_digit.ensures ∙ c.if-is_digit.true,
-      c.wide.ensures,
+      c.from.ensures,
     )
 
 pub returns-then-b-eq45 : goal.returns-then-b-eq45

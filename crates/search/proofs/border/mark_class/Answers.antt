@@ -178,12 +178,9 @@ loop-arc-preserved c =
           (λ j h l. apart s j (omega (arith, l)) (p.left_after j h l));
     }
 
-pub shape_of-marks : goal.shape_of-marks
-shape_of-marks c = (here c.before.before).marked.room
-
 -- No edge is left.
-pub returns : goal.returns
-returns c =
+pub returns-then-span : goal.returns-then-span
+returns-then-span c =
     let last = c.next_span-span.ensures.last c.if-span.true in
     let all = here c.before.before in (
       sym (subst (λ i. Counted (test (start c.before.before)) (run_start (n (start c.before.before)) ((start c.before.before).args.i / 32)) i (at c.before.before).loop-arc.count)

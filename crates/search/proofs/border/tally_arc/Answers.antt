@@ -2,12 +2,10 @@
 use mathlib.Core.Path.{◌≡◌, sym, ◌∙◌}
 use mathlib.Core.Bool.{true}
 use native.Mathlib.Omega.{arith}
-use mir.Syntax.{w32}
-use mir.ValLaws.{to_z-of_z}
 use Rattle.polygon.specs.Vertices.{vertices_count}
 use Rattle.search.specs.Walk.{stops_at, tally_on}
 use Rattle.search.proofs.Laws.Arc.{reference}
-use Rattle.search.proofs.Laws.Held.{all_edges, tally_none, first_held}
+use Rattle.search.proofs.Laws.Held.{all_edges, tally_same, first_held}
 use Rattle.search.proofs.border.tally_arc.Goals as goal
 use Rattle.search.proofs.border.tally_arc.Lts as lts
 use Rattle.search.proofs.border.tally_arc.Reads as reads
@@ -38,9 +36,7 @@ tally_held-requires c =
       vertices_value = first_held v.vertices.now v.arc.from v.arc.to (walked c.before ∙ c.in-Held.is);
     }
 
-pub returns-in-Crossed : goal.returns-in-Crossed
-returns-in-Crossed c =
+pub returns-in_default : goal.returns-in_default
+returns-in_default c =
     let v = c.args in
-    let sum = c.in-Crossed.sum in
-    rw (to_z-of_z w32 sum (record { sfits = c.in-Crossed.known_told-in-Crossed-1-own.given.1.0.1 }))
-    (sym (tally_none v.vertices.now v.arc.from v.arc.to (walked c.before ∙ c.in-Crossed.is)))
+    tally_same v.vertices.now v.arc.from v.arc.to (walked c.before) c.in_default.not-Held

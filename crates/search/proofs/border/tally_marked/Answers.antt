@@ -44,15 +44,15 @@ walk_spans-requires c =
     let s = start c.before in
     (s.requires, omega (arith, (reference s.requires.aimed).accepted.listed.least))
 
-pub returns-in-Nothing : goal.returns-in-Nothing
-returns-in-Nothing c =
+pub returns-in-None : goal.returns-in-None
+returns-in-None c =
     let v = (start c.before.before).args in
     let vs = v.vertices.now in
     c.walk_spans.ensures
     ∙ all_edges (stops_at vs v.arc.to false) vs v.arc.from v.arc.to (vertices_count vs)
-    ∙ tally_passed vs v.arc.from v.arc.to (sym (found c.before.before) ∙ c.in-Nothing.is)
+    ∙ tally_passed vs v.arc.from v.arc.to (sym (found c.before.before) ∙ c.in-None.is)
 
-pub returns-in-At : goal.returns-in-At
-returns-in-At c =
+pub returns-in-Some : goal.returns-in-Some
+returns-in-Some c =
     let v = (start c.before).args in
-    sym (tally_at v.vertices.now v.arc.from v.arc.to (sym (found c.before) ∙ c.in-At.is))
+    sym (tally_at v.vertices.now v.arc.from v.arc.to (sym (found c.before) ∙ c.in-Some.is))

@@ -5,9 +5,9 @@ use mir.ValLaws.{to_z-of_z}
 use Rattle.search.specs.declared.walk.Tally.TheVariants.{Crossed}
 use Rattle.search.proofs.walk.tally_by.Goals as goal
 
-pub returns-in-Nothing : goal.returns-in-Nothing
-returns-in-Nothing c =
-    rw c.in-Nothing.is (ap (Crossed c.args.crossed) (to_z-of_z w32 c.args.sum c.ranges.sum))
+pub returns-in-None : goal.returns-in-None
+returns-in-None c =
+    rw c.in-None.is (ap (Crossed c.args.crossed) (to_z-of_z w32 c.args.sum c.ranges.sum))
 
-pub returns-in-At : goal.returns-in-At
-returns-in-At c = rw c.in-At.is
+pub returns-in-Some : goal.returns-in-Some
+returns-in-Some c = rw c.in-Some.is

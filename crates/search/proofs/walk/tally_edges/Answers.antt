@@ -2,14 +2,12 @@
 use mathlib.Core.Path.{◌≡◌, sym, ◌∙◌, ap}
 use mathlib.Core.Bool.{true}
 use native.Mathlib.Omega.{arith}
-use mir.Syntax.{w32}
-use mir.ValLaws.{to_z-of_z}
 use Rattle.polygon.specs.Vertices.{vertices_count}
 use Rattle.polygon.proofs.Laws.Checks.{accept_passed}
 use Rattle.search.specs.Arc.{arc_of, Searchable}
 use Rattle.search.specs.Walk.{tally_from, tally_on, stops_at}
 use Rattle.search.proofs.Laws.Arc.{arc_searchable, reference}
-use Rattle.search.proofs.Laws.Held.{all_edges, tally_none, first_held}
+use Rattle.search.proofs.Laws.Held.{all_edges, tally_same, first_held}
 use Rattle.search.proofs.walk.tally_edges.Goals as goal
 use Rattle.search.proofs.walk.tally_edges.Goals.{After-arc_between-arc}
 use Rattle.search.proofs.walk.tally_edges.Lts as lts
@@ -65,10 +63,7 @@ tally_held-requires c =
 pub returns-in-Held : goal.returns-in-Held
 returns-in-Held c = c.tally_held.ensures ∙ ends c.before.before.before
 
-pub returns-in-Crossed : goal.returns-in-Crossed
-returns-in-Crossed c =
+pub returns-in_default : goal.returns-in_default
+returns-in_default c =
     let arc = c.arc_between-arc.result in
-    let vs = c.args.vertices.now in
-    let sum = c.in-Crossed.sum in
-    rw (to_z-of_z w32 sum (record { sfits = c.in-Crossed.known_told-in-Crossed-1-own.given.1.0.1 }))
-    (sym (tally_none vs arc.from arc.to (walked c.before ∙ c.in-Crossed.is)) ∙ ends c.before.before)
+    tally_same c.args.vertices.now arc.from arc.to (walked c.before) c.in_default.not-Held ∙ ends c.before.before

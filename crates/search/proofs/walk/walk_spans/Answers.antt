@@ -12,7 +12,8 @@ use Rattle.polygon.specs.Vertices.{vertices_count}
 use Rattle.search.specs.declared.spans.Span.{Span}
 use Rattle.search.specs.declared.walk.Tally.{Tally}
 use Rattle.search.specs.Scan.{is_one_sided}
-use Rattle.search.specs.Spans.{run_start, later_of}
+use Rattle.search.specs.Spans.{run_start}
+use Rattle.std.specs.Prelude.{max}
 use Rattle.search.specs.Walk.{stops_at, tally_on}
 use Rattle.search.proofs.Laws.Arc.{reference}
 use Rattle.search.proofs.Laws.OneSided.{tallied_past}
@@ -85,7 +86,7 @@ side_of-closing-requires c =
 
 pub loop-arc-init : goal.loop-arc-init
 loop-arc-init c =
-    let own : begin c.before.before.before ≡ later_of (begin c.before.before.before) (run_start (n c.before.before.before) (begin c.before.before.before / 32)) = omega arith in (
+    let own : begin c.before.before.before ≡ max (begin c.before.before.before) (run_start (n c.before.before.before) (begin c.before.before.before / 32)) = omega arith in (
       omega arith,
       omega (arith, run_of (n c.before.before.before) (begin c.before.before.before) c.requires.1),
       subst (λ i. TalliedTo c.before.before.before i 0 (pos 0)) own (tallied_start (begin c.before.before.before)),
@@ -108,7 +109,7 @@ module _ (c : After-next_span-span) where
 
   -- where the walk goes on
   abbrev on : ℕ
-  on = later_of (begin start) span.from
+  on = max (begin start) span.from
 
   inside : on ≤ n start
   inside = omega (arith, spanned_within c.next_span-span.ensures, start.requires.1)
@@ -130,7 +131,7 @@ pub walk_edges-requires : goal.walk_edges-requires
 walk_edges-requires c =
     let s = start c.before.before.before in
     let side = (at c.before.before.before).side_of-closing in
-    let begins = c.later.ensures in record {
+    let begins = c.max-begin.ensures in record {
       accepted_arc = (
         s.requires.0.aimed,
         sided_result side.result (record { sfits = side.type_inv }) side.ensures (at c.before.before.before).vertex_at.ensures,
@@ -155,7 +156,7 @@ module _ (c : In-Crossed) where
   fit : SFits w32 ways
   fit = record { sfits = c.in-Crossed.known_told-in-Crossed-1-own.given.1.0.1 }
 
-  next : TalliedTo (start a) (later_of (begin (start a)) (run_start (n (start a)) (span a).next))
+  next : TalliedTo (start a) (max (begin (start a)) (run_start (n (start a)) (span a).next))
       ((at a).loop-arc.crossed + c.in-Crossed.more) (to_z w32 (at a).loop-arc.sum-bits +ℤ ways)
   next =
       let p = a.next_span-span.ensures in
@@ -166,10 +167,10 @@ module _ (c : In-Crossed) where
       (subst (λ i. TalliedTo (start a) i ((at a).loop-arc.crossed + c.in-Crossed.more) (to_z w32 (at a).loop-arc.sum-bits
       +ℤ ways)) there
       (on_block ((span a).to - on a) (omega arith) (here a)
-      (said (start a) (span a).to walked.later.ensures
+      (said (start a) (span a).to walked.max-begin.ensures
       (sym walked.walk_edges.ensures ∙ c.in-Crossed.is))))
 
-  few : later_of (begin (start a)) (run_start (n (start a)) (span a).next) ≤ 4096
+  few : max (begin (start a)) (run_start (n (start a)) (span a).next) ≤ 4096
   few = omega (arith, most (start a), (start a).requires.1)
 
 pub overflow_add-crossed : goal.overflow_add-crossed
@@ -207,6 +208,6 @@ returns c =
           let more = less c.before.before.before w.if-span.false in
           let within : on c.before.before.before + ((span c.before.before.before).to - on c.before.before.before) ≤ n s = omega (arith, more, p.within) in
           let held = on_held ((span c.before.before.before).to - on c.before.before.before) (omega arith) (here c.before.before.before) (n s) within
-          (said s (span c.before.before.before).to w.later.ensures (sym w.walk_edges.ensures ∙ w.in-Held.is)) in
+          (said s (span c.before.before.before).to w.max-begin.ensures (sym w.walk_edges.ensures ∙ w.in-Held.is)) in
           rw w.found-is (sym held)
     ]

@@ -3,9 +3,10 @@ use Rattle.std.proofs.Common.{T, sym, subst}
 use lib.Ieee.{of_bits, neg}
 use Rattle.separation.proofs.find.whole.Goals as goal
 
-pub truncating_f64_to_i64-requires : goal.truncating_f64_to_i64-requires
+pub truncating_f64_to_i64-requires-clause-lower_bound : goal.truncating_f64_to_i64-requires-clause-lower_bound
 unfolding of_bits neg
-truncating_f64_to_i64-requires c = record {
-  lower_bound = subst T (sym c.if-x.true) tt;
-  upper_bound = subst T (sym c.if-x-2.true) tt;
-}
+truncating_f64_to_i64-requires-clause-lower_bound c = subst T (sym c.if-x.true) tt
+
+pub truncating_f64_to_i64-requires-clause-upper_bound : goal.truncating_f64_to_i64-requires-clause-upper_bound
+unfolding of_bits neg
+truncating_f64_to_i64-requires-clause-upper_bound c = subst T (sym c.if-x-2.true) tt

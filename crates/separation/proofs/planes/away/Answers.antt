@@ -1,9 +1,9 @@
 -- `away` meets its contract.
-use Rattle.std.proofs.Common.{◌≡◌, ◌^◌, ◌<◌, ◌≤◌, List, ℤ, neg_ℤ, ap, ◌∙◌, arith, w64, to_z, of_z}
-use lib.Signed.{mag}
-use mir.Val.{hbits}
-use Rattle.integers.proofs.Compare.{result_same}
-use Rattle.sphere.specs.Point.{fine, Within}
+use Rattle.std.proofs.Common.{◌≡◌, ◌≤◌, List, ℤ, pos, ◌-ℤ◌, neg_ℤ, ap, ◌∙◌, arith, le_refl}
+use Rattle.integers.proofs.Polynomial.{con, neg}
+use Rattle.integers.proofs.Identity.{◌:-◌, ◌:=◌, ints}
+use Rattle.integers.proofs.Range.{Formula, number, ◌⊖◌, formula_fits, formula_same}
+use Rattle.sphere.specs.Point.{fine, Fits, Within}
 use Rattle.polygon.specs.Vertices.{vertices_count, vertex_at}
 use Rattle.polygon.specs.Accepted.{Gridded}
 use Rattle.separation.specs.Separation.{reverse}
@@ -12,38 +12,35 @@ use Rattle.separation.proofs.planes.away.Goals as goal
 corner : (vs : List ℤ) → Gridded fine vs × (3 ≤ vertices_count vs) → Within fine (vertex_at vs 0)
 corner vs h = h.0.each 0 (let l = h.1 in omega arith)
 
-pub negated-requires : goal.negated-requires
-unfolding vertex_at
-negated-requires c =
-    rw (result_same w64 c.number_at.result c.number_at.type_inv c.number_at.ensures)
-    (corner _ c.requires).at_x
+-- A number that was read, and as much below zero.
+abbrev less : (k : ℤ) → Fits fine k → Formula
+less k f = number (pos 0) 0 (le_refl 0) ⊖ number k fine f.within
 
-pub negated-requires-2 : goal.negated-requires-2
-unfolding vertex_at
-negated-requires-2 c =
-    rw (result_same w64 c.number_at-2.result c.number_at-2.type_inv c.number_at-2.ensures)
-    (corner _ c.requires).at_y
+zero_less : (k : ℤ) → pos 0 -ℤ k ≡ neg_ℤ k
+zero_less = ints 1 (λ k. con (pos 0) :- k := neg k) tt
 
-pub negated-requires-3 : goal.negated-requires-3
+pub overflow_sub-result : goal.overflow_sub-result
 unfolding vertex_at
-negated-requires-3 c =
-    rw (result_same w64 c.number_at-3.result c.number_at-3.type_inv c.number_at-3.ensures)
-    (corner _ c.requires).at_z
+overflow_sub-result c = formula_fits (less c.number_at.result (rw c.number_at.ensures (corner _ c.requires).at_x)) tt
 
--- A number that was read and negated.
-turned : (z y : ℤ) {v : ℤ} → mag z < 2 ^ hbits w64 → z ≡ v → mag y < 2 ^ hbits w64 →
-    y ≡ neg_ℤ (to_z w64 (of_z w64 z)) → to_z w64 (of_z w64 y) ≡ neg_ℤ v
-turned z y ok e ok' e' = result_same w64 y ok' e' ∙ ap neg_ℤ (result_same w64 z ok e)
+pub overflow_sub-result-2 : goal.overflow_sub-result-2
+unfolding vertex_at
+overflow_sub-result-2 c = formula_fits (less c.number_at-2.result (rw c.number_at-2.ensures (corner _ c.requires).at_y)) tt
+
+pub overflow_sub-result-3 : goal.overflow_sub-result-3
+unfolding vertex_at
+overflow_sub-result-3 c = formula_fits (less c.number_at-3.result (rw c.number_at-3.ensures (corner _ c.requires).at_z)) tt
 
 pub returns : goal.returns
 unfolding reverse vertex_at
 returns c =
+    let w = corner _ c.requires in
     let x = c.number_at in
     let y = c.number_at-2 in
     let z = c.number_at-3 in
+    let turned = λ (k : ℤ) (f : Fits fine k). formula_same (less k f) tt ∙ zero_less k in
     λ i. record {
-      x = turned x.result c.negated.result x.type_inv x.ensures c.negated.type_inv c.negated.ensures i;
-      y = turned y.result c.negated-2.result y.type_inv y.ensures c.negated-2.type_inv
-          c.negated-2.ensures i;
-      z = turned z.result c.negated-3.result z.type_inv z.ensures c.negated-3.type_inv c.negated-3.ensures i;
+      x = (turned x.result (rw x.ensures w.at_x) ∙ ap neg_ℤ x.ensures) i;
+      y = (turned y.result (rw y.ensures w.at_y) ∙ ap neg_ℤ y.ensures) i;
+      z = (turned z.result (rw z.ensures w.at_z) ∙ ap neg_ℤ z.ensures) i;
     }

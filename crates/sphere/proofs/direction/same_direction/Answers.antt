@@ -7,9 +7,6 @@ use Rattle.sphere.specs.Direction.{is_same_direction}
 use Rattle.sphere.proofs.Laws.Grid.{points_dot}
 use Rattle.sphere.proofs.direction.same_direction.Goals as goal
 
-pub dot-requires : goal.dot-requires
-dot-requires c = let start = c.before.before in points_dot start.requires.0 start.requires.1
-
 pub returns-then-parallel : goal.returns-then-parallel
 unfolding is_same_direction
 returns-then-parallel c =

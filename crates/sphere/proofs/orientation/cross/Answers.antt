@@ -31,12 +31,6 @@ module _ (c : After-struct_told-6-1) where
   abbrev z : Formula
   z = x_of A ⊗ y_of B ⊖ y_of A ⊗ x_of B
 
-pub overflow_mul-result : goal.overflow_mul-result
-overflow_mul-result c = formula_fits (y_of (A c) ⊗ z_of (B c)) tt
-
-pub overflow_mul-result-2 : goal.overflow_mul-result-2
-overflow_mul-result-2 c = formula_fits (z_of (A c) ⊗ y_of (B c)) tt
-
 pub overflow_sub-result : goal.overflow_sub-result
 overflow_sub-result c = formula_fits (x c) tt
 

@@ -30,8 +30,3 @@ returns-in-Sure c =
     ap sign_of (result_same w64 c.float_side.result c.float_side.type_inv c.float_side.ensures)
     ∙ ap (λ v. sign_of (cond (lt (float (pos 0)) v) (pos 1) (negsuc 0))) (sym sure.0)
     ∙ sure_side t (dot_of a.normal a.c) near sure.1
-
-pub returns-in-Unsure : goal.returns-in-Unsure
-returns-in-Unsure c =
-    ap sign_of (to_z-of_z w64 c.word_side.result (sfits_of c.word_side.type_inv))
-    ∙ c.word_side.ensures ∙ ap sign_of c.before.word_dot.ensures.0

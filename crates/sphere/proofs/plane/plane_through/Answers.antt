@@ -3,9 +3,6 @@ use Rattle.sphere.specs.Plane.{plane_of}
 use Rattle.sphere.proofs.Laws.Plane.{grid→fine}
 use Rattle.sphere.proofs.plane.plane_through.Goals as goal
 
-pub cross-requires : goal.cross-requires
-cross-requires c = (grid→fine c.args.grid c.requires.0, grid→fine c.args.grid c.requires.1)
-
 pub returns : goal.returns
 unfolding plane_of
 returns c =

@@ -8,9 +8,6 @@ use Rattle.sphere.proofs.Laws.Plane.{Made, plane_made, made_within, made_turn}
 use Rattle.sphere.proofs.plane.turn.Goals as goal
 use Rattle.sphere.proofs.plane.turn.Goals.{After-plane_through}
 
-pub plane_through-requires : goal.plane_through-requires
-plane_through-requires c = (c.requires.0, c.requires.1)
-
 made : (c : After-plane_through) →
     let a = c.before.args in Made a.grid a.a a.b c.plane_through.result
 made c =

@@ -43,9 +43,6 @@ module _ (c : After-limit-most) where
   number : to_z w64 (of_z w64 c.before.args.k) ≡ c.before.args.k
   number = to_z-of_z w64 c.before.args.k c.before.ranges.k
 
-pub overflow_sub-most : goal.overflow_sub-most
-overflow_sub-most c = fits c
-
 pub returns-then-k-most : goal.returns-then-k-most
 returns-then-k-most c =
     let b = c.before in

@@ -5,26 +5,6 @@ use Rattle.sphere.proofs.Numbers.{words_of}
 use Rattle.sphere.proofs.Laws.Words.{half_fits, low_kept}
 use Rattle.sphere.proofs.words.low_part.Goals as goal
 
-pub nonzero_rem-result : goal.nonzero_rem-result
-nonzero_rem-result c =
-    let n = c.before.before.before.args.n in (lit< tt, half_fits n.x (words_of n c.struct_told-1.given).at_x)
-
-pub nonzero_rem-result-2 : goal.nonzero_rem-result-2
-nonzero_rem-result-2 c =
-    let n = c.before.before.before.before.before.args.n in (
-      lit< tt,
-      half_fits n.y (words_of n
-          c.struct_told-2-1.given).at_y,
-    )
-
-pub nonzero_rem-result-3 : goal.nonzero_rem-result-3
-nonzero_rem-result-3 c =
-    let n = c.before.before.before.before.before.before.args.n in (
-      lit< tt,
-      half_fits n.z (words_of n
-          c.struct_told-3-1.given).at_z,
-    )
-
 pub returns : goal.returns
 unfolding low_part
 returns c =

@@ -50,9 +50,6 @@ module _ (w : Words) {X Y : Type 0}
   low_fits : SFits w64 w.low
   low_fits = record { sfits = given.1.0.1 }
 
-pub nonzero_div-top : goal.nonzero_div-top
-nonzero_div-top c = let w = c.before.before.before.args.w in (lit< tt, half_fits w.low (low_fits w c.struct_told-1.given))
-
 module _ (c : After-struct_told-2-1) where
   abbrev start : Start
   start = c.before.before.before.before
@@ -66,18 +63,12 @@ module _ (c : After-struct_told-2-1) where
   g : SFits w64 given.low
   g = low_fits given c.struct_told-2-1.given
 
-pub overflow_add-top : goal.overflow_add-top
-overflow_add-top c = sum_fits (given c.before) (start c.before).requires (f c.before) (g c.before)
-
 pub returns-then-top-ne0 : goal.returns-then-top-ne0
 returns-then-top-ne0 c =
     let b = c.before in
     let w = given b in
     let same-top = same w (start b).requires (f b) (g b) in
     ap sign_of (kept w (start b).requires (f b) (g b)) ∙ top_sign w (λ e. c.if-top-ne0.true (ap (of_z w64) (same-top ∙ e)))
-
-pub nonzero_rem-result : goal.nonzero_rem-result
-nonzero_rem-result c = let b = c.before.before.before in (lit< tt, half_fits (given b).low (g b))
 
 pub returns : goal.returns
 returns c =

@@ -1,0 +1,6 @@
+-- The test of `antipodal_check` meets its contract: the ends of an edge are on the grid.
+use Rattle.polygon.proofs.Laws.Edges.{ends_within}
+use Rattle.polygon.proofs.checks.fn.antipodal_check.first_below.Goals as goal
+
+pub antipodal-requires : goal.antipodal-requires
+antipodal-requires c = ends_within c.requires.1 c.requires.0 c.vertex_at.ensures c.end_of.ensures

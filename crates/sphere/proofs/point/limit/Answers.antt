@@ -1,8 +1,0 @@
--- `limit` meets its contract, grid by grid.
-use Rattle.sphere.proofs.point.limit.Goals as goal
-
-pub returns-in-Coarse : goal.returns-in-Coarse
-returns-in-Coarse c = rw c.in-Coarse.is
-
-pub returns-in-Fine : goal.returns-in-Fine
-returns-in-Fine c = rw c.in-Fine.is
