@@ -174,6 +174,7 @@ MUTANTS = [
      'statements.py', "function.put('return;' if function.local(0) == 'Unit' else 'return l0;')", 'pass'),
     (('statement', 'If'), 'arms swapped', NONE,
      'statements.py', "f'if ({condition.text}) {{'", "f'if (!{condition.text}) {{'"),
+    (('statement', 'If'), 'an and is an or', NONE, 'statements.py', '} && {', '} || {'),
     (('statement', 'Switch'), 'always the last arm', NONE,
      'statements.py', "f'switch ({operand(function, value).text}) {{'",
      "f'switch (255 | {operand(function, value).text}) {{'"),

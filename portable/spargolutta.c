@@ -301,9 +301,7 @@ static INLINE bool fields__is_allowed(uint64_t l1, uint64_t l2, uint64_t l3, uin
     bool l6;
     uint64_t l7;
     l6 = (l2 <= l1);
-    if (l6) {
-        l6 = (l1 <= l3);
-    }
+    l6 = (l6 && (l1 <= l3));
     l5 = l6;
     if (l5) {
         l7 = (l1 % l4);
@@ -492,9 +490,7 @@ static INLINE bool fields__is_charset(uint32_t l1)
     bool l0;
     bool l2;
     l2 = (UINT32_C(1) <= l1);
-    if (l2) {
-        l2 = (l1 <= UINT32_C(3));
-    }
+    l2 = (l2 && (l1 <= UINT32_C(3)));
     l0 = l2;
     return l0;
 }
@@ -708,7 +704,7 @@ static INLINE type_core__result__Result_of_Parts_Refusal fields__from_known(slic
     return l0;
 }
 
-static type_core__result__Result_of_Parts_Refusal fields__five_fields(slice_uint8_t l1)
+static INLINE type_core__result__Result_of_Parts_Refusal fields__five_fields(slice_uint8_t l1)
 {
     type_core__result__Result_of_Parts_Refusal l0;
     type_core__result__ErrResidual_of_Refusal l3;
@@ -1104,7 +1100,7 @@ static INLINE type_sphere__point__Point sheet__open__second_point(slice_uint8_t 
     return l0;
 }
 
-static type_sheet__open__Opened sheet__open__points(slice_uint8_t l1, type_fields__Parts l2)
+static INLINE type_sheet__open__Opened sheet__open__points(slice_uint8_t l1, type_fields__Parts l2)
 {
     type_sheet__open__Opened l0;
     type_sphere__point__Grid l3;
@@ -5687,17 +5683,11 @@ static INLINE bool cones__grow__may_halve(type_cones__table__Cone l1, uint64_t l
     uint64_t l8;
     l3 = (l1.f1 - l1.f0);
     l7 = (UINT64_C(0) < l1.f5);
-    if (l7) {
-        l7 = (l1.f2 < l1.f3);
-    }
+    l7 = (l7 && (l1.f2 < l1.f3));
     l6 = l7;
-    if (l6) {
-        l6 = (UINT64_C(2) <= l1.f4);
-    }
+    l6 = (l6 && (UINT64_C(2) <= l1.f4));
     l5 = l6;
-    if (l5) {
-        l5 = (UINT64_C(6) < l3);
-    }
+    l5 = (l5 && (UINT64_C(6) < l3));
     l4 = l5;
     if (l4) {
         l8 = (l2 - l1.f1);
@@ -5957,9 +5947,7 @@ static INLINE bool cones__table__has_room(uint64_t l1, uint64_t l2, uint64_t l3,
     l8 = (l3 << 2);
     l9 = (l1 - l8);
     l7 = (UINT64_C(4) <= l9);
-    if (l7) {
-        l7 = (l2 <= UINT64_C(65535));
-    }
+    l7 = (l7 && (l2 <= UINT64_C(65535)));
     l6 = l7;
     if (l6) {
         l10 = (l2 - l4);
@@ -7226,7 +7214,7 @@ static INLINE void feed__store_result(slice_uint8_t l1, uint64_t l2, type_core__
     return;
 }
 
-static void feed__judge_one(type_sphere__point__Grid l1, slice_uint32_t l2, slice_uint32_t l3, slice_uint16_t l4, slice_uint16_t l5, slice_uint16_t l6, slice_uint16_t l7, slice_uint16_t l8, type_cones__build__Index l9, type_sphere__point__Point l10, type_sphere__point__Point l11, slice_uint8_t l12, uint64_t l13, slice_uint8_t l14)
+static INLINE void feed__judge_one(type_sphere__point__Grid l1, slice_uint32_t l2, slice_uint32_t l3, slice_uint16_t l4, slice_uint16_t l5, slice_uint16_t l6, slice_uint16_t l7, slice_uint16_t l8, type_cones__build__Index l9, type_sphere__point__Point l10, type_sphere__point__Point l11, slice_uint8_t l12, uint64_t l13, slice_uint8_t l14)
 {
     uint64_t l15;
     type_sphere__point__Point l16;
@@ -8101,16 +8089,12 @@ static INLINE bool basin__shared__opposed(uint64_t l1, uint64_t l2)
     bool l4;
     bool l5;
     l4 = (signed64(UINT64_C(0)) < signed64(l1));
-    if (l4) {
-        l4 = (signed64(l2) < signed64(UINT64_C(0)));
-    }
+    l4 = (l4 && (signed64(l2) < signed64(UINT64_C(0))));
     l3 = l4;
     if (l3) {
     } else {
         l5 = (signed64(l1) < signed64(UINT64_C(0)));
-        if (l5) {
-            l5 = (signed64(UINT64_C(0)) < signed64(l2));
-        }
+        l5 = (l5 && (signed64(UINT64_C(0)) < signed64(l2)));
         l3 = l5;
     }
     l0 = l3;
@@ -8708,16 +8692,23 @@ static INLINE type_book__sets__Which book__zones__found(type_book__sets__Sets l1
     return l0;
 }
 
-static INLINE type_book__sets__Which book__zones__broken(type_answer__Refusal l1)
+static INLINE type_book__sets__Which book__zones__broken(uint32_t l1, uint64_t l2)
+{
+    type_book__sets__Which l0;
+    type_book__sets__Sets l3;
+    l3 = (type_book__sets__Sets){.f0 = UINT64_C(0), .f1 = UINT64_C(0), .f2 = UINT64_C(0)};
+    l0 = (type_book__sets__Which){.f0 = l1, .f1 = l2, .f2 = UINT32_C(0), .f3 = l3};
+    return l0;
+}
+
+static INLINE type_book__sets__Which book__zones__broken_by(type_answer__Refusal l1)
 {
     type_book__sets__Which l0;
     uint32_t l2;
     type_answer__Reason l3;
-    type_book__sets__Sets l4;
     l3 = l1.f0;
     l2 = answer__Reason__number(l3);
-    l4 = (type_book__sets__Sets){.f0 = UINT64_C(0), .f1 = UINT64_C(0), .f2 = UINT64_C(0)};
-    l0 = (type_book__sets__Which){.f0 = l2, .f1 = l1.f1, .f2 = UINT32_C(0), .f3 = l4};
+    l0 = book__zones__broken(l2, l1.f1);
     return l0;
 }
 
@@ -8766,7 +8757,7 @@ static type_book__sets__Which book__which__which(slice_uint8_t l1, uint32_t l2, 
         }
         case 1: default: {
             l8 = l10.s1;
-            l0 = book__zones__broken(l8);
+            l0 = book__zones__broken_by(l8);
             return l0;
             break;
         }
@@ -8779,7 +8770,7 @@ exit0:;
     if (l13) {
         l15 = (type_answer__Reason){.tag = 24};
         l14 = answer__Reason__at(l15, l4);
-        l0 = book__zones__broken(l14);
+        l0 = book__zones__broken_by(l14);
         return l0;
     }
     l0 = book__zones__found(l5);
@@ -9837,7 +9828,7 @@ static INLINE bool separation__planes__is_separated(type_sphere__point__Grid l1,
     return l0;
 }
 
-static type_core__result__Result_of_Verdict_Refusal book_feed__judged__answer_for(type_sphere__point__Grid l1, slice_uint32_t l2, slice_uint32_t l3, slice_uint16_t l4, slice_uint16_t l5, slice_uint16_t l6, slice_uint16_t l7, slice_uint16_t l8, type_cones__build__Index l9, type_separation__planes__Planes l10, type_core__result__Result_of_Verdict_Refusal l11, type_sphere__point__Point l12, type_sphere__point__Point l13, type_sphere__point__Point l14)
+static INLINE type_core__result__Result_of_Verdict_Refusal book_feed__judged__answer_for(type_sphere__point__Grid l1, slice_uint32_t l2, slice_uint32_t l3, slice_uint16_t l4, slice_uint16_t l5, slice_uint16_t l6, slice_uint16_t l7, slice_uint16_t l8, type_cones__build__Index l9, type_separation__planes__Planes l10, type_core__result__Result_of_Verdict_Refusal l11, type_sphere__point__Point l12, type_sphere__point__Point l13, type_sphere__point__Point l14)
 {
     type_core__result__Result_of_Verdict_Refusal l0;
     type_search__walk__Mode l15;
@@ -14431,13 +14422,27 @@ static INLINE uint64_t spargolutta__imports__spg_points_place(slice_uint8_t l1, 
 static INLINE uint64_t degrees__outside_at(slice_uint8_t l1, uint64_t l2)
 {
     uint64_t l0;
-    bool l3;
-    type_angles__point__Position l4;
-    uint64_t l5;
-    l5 = (l2 << 3);
-    l4 = degrees__position_at(l1, l5);
-    l3 = angles__point__is_outside(l4);
-    if (l3) {
+    uint64_t l3;
+    uint64_t l4;
+    uint32_t l5;
+    uint64_t l6;
+    uint64_t l7;
+    bool l8;
+    bool l9;
+    l6 = (l2 << 3);
+    l5 = big_endian__read__int_at(l1, l6);
+    l3 = core__convert__I64FromI32__from(l5);
+    l6 = (l2 << 3);
+    l7 = (l6 + UINT64_C(4));
+    l5 = big_endian__read__int_at(l1, l7);
+    l4 = core__convert__I64FromI32__from(l5);
+    l8 = angles__point__is_past(UINT64_C(1800000000), l3);
+    if (l8) {
+        l0 = UINT64_C(1);
+        return l0;
+    }
+    l9 = angles__point__is_past(UINT64_C(900000000), l4);
+    if (l9) {
         l0 = UINT64_C(1);
         return l0;
     }

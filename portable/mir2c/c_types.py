@@ -138,7 +138,7 @@ class Types:
         return slots, places
 
     def size(self, ty):
-        """Its bytes on a 64-bit machine, up to padding: which frames are big depends on it, and nothing else."""
+        """Its bytes on a 64-bit machine, up to padding: which frames and results are big hangs on it, and no more."""
         name, inside = split(ty)
         if name == 'Array':
             return self.size(inside[0]) * length(inside[1])

@@ -10,6 +10,10 @@ from rules import split
 
 # A function of fewer assignments and calls than this becomes part of its callers.
 INLINE_MOST = 250
+# So does one that is called at one place alone with more arguments than this,
+ARGUMENTS_MOST = 12
+# and a leaf that is, whose result has more bytes than this: three numbers and a tag, eight bytes each.
+RESULT_MOST = 32
 TOOLCHAIN = 'core::'
 HERE = os.path.dirname(os.path.abspath(__file__))
 
@@ -42,8 +46,9 @@ class Program:
             self.order.append(name)
 
     def weigh(self, name):
-        """How many assignments and calls a function has, with those of the callees that become part of it. Not counted
-        are copies in the toolchain's library, which hands values from one small function to the next."""
+        """How many assignments and calls a function has, with those of the callees that are small enough to become part
+        of it. Not counted are copies in the toolchain's library, which hands values from one small function to the
+        next."""
         counted = [node for node in self.functions[name]['body'] if split(node)[0] in ('Assign', 'Call')]
         own = len([node for node in counted if not (name.startswith(TOOLCHAIN) and is_copy(node))])
         within = [self.weights.get(callee, INLINE_MOST) for callee in callees(self.functions[name])]
@@ -51,12 +56,30 @@ class Program:
         apart = name in self.declared_first or Function(name, self).is_big()
         self.weights[name] = INLINE_MOST if apart else weight
 
+    def is_leaf(self, name):
+        """Whether no loop and no call is left in it, once the small functions have become part of it."""
+        function = self.functions[name]
+        return 'Loop' not in function['body'] and all(self.weights[callee] < INLINE_MOST and self.is_leaf(callee)
+                                                      for callee in callees(function))
+
+    def is_part(self, function):
+        """Whether it becomes part of its only caller though it isn't small, as what they hand each other would go
+        through memory at each call. One with many arguments is a turn of a loop over queries, and gcc makes a clone of
+        it for each grid. A leaf with a wide result is a check that is asked at once how it went."""
+        name = function.name
+        if self.calls[name] != 1 or name in self.declared_first:
+            return False
+        if len(function.parameters()) > ARGUMENTS_MOST:
+            return True
+        return self.types.size(function.local(0)) > RESULT_MOST and self.is_leaf(name)
+
     def storage(self, function):
         """Big frames stay apart, so that no call needs more stack than the header says; small functions become part of
         their callers, which gcc does too rarely by itself."""
         if function.is_big():
             return 'APART '
-        return 'INLINE ' if self.weights[function.name] < INLINE_MOST else ''
+        inline = self.weights[function.name] < INLINE_MOST or self.is_part(function)
+        return 'INLINE ' if inline else ''
 
     def text(self):
         sys.setrecursionlimit(10000)

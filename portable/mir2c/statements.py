@@ -126,10 +126,25 @@ def unreachable(function, at, _):
     return at + 1
 
 
+def second_of_and(function, at, node):
+    """b of `a && b` where b is one operation of two numbers, else None. MIR has it as x = a; if (x) { x = b }."""
+    (name, then), other = split(function.body[at + 1]), function.body[at + 2]
+    if other != 'Skip' or name != 'Assign' or {'Copy': then[0]} != node:
+        return None
+    value, parts = split(then[1])
+    return parts if value == 'Op2' else None
+
+
 @rule('statement', 'If')
 def if_(function, at, node):
+    """An `&&` with an operation stays an `&&`: gcc then makes the two ends of an interval one comparison."""
     condition = operand(function, node)
     same(condition.type, 'Bool')
+    second = second_of_and(function, at, node)
+    if second is not None:
+        b = op2(function, second[0], operand(function, second[1]), operand(function, second[2]))
+        function.put(f'{condition.text} = ({condition.text} && {converted(function, b, condition.type)});')
+        return at + 3
     function.put(f'if ({condition.text}) {{')
     middle = indented(function, at + 1)
     mark = len(function.lines)

@@ -15,10 +15,18 @@ pub fn repository(path: &str) -> PathBuf {
 pub struct Folder(PathBuf);
 
 impl Folder {
+    /// A new one: another test that runs at the same time may have the name too, and a run that was stopped leaves its own.
     pub fn new(name: &str) -> Folder {
-        let path = env::temp_dir().join(format!("spargolutta-{}-{name}", process::id()));
-        fs::create_dir(&path).expect("temporary folder");
-        Folder(path)
+        let temporary = env::temp_dir();
+        for i in 0u32.. {
+            let path = temporary.join(format!("spargolutta-{}-{name}-{i}", process::id()));
+            match fs::create_dir(&path) {
+                Ok(()) => return Folder(path),
+                Err(error) if error.kind() == ErrorKind::AlreadyExists => {}
+                Err(error) => panic!("temporary folder: {error}"),
+            }
+        }
+        panic!("temporary folder: every name is taken")
     }
 
     pub fn path(&self, name: &str) -> PathBuf {

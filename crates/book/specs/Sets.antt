@@ -1,6 +1,6 @@
 -- Document 02, P10: sets of zones as numbers, one bit a zone, the first sheet lowest; and what a book answers. Defined,
--- in order: is_inside, is_boundary, is_refused; digit, mask_of, sets_of, no_zones; found_of, broken_at; then, of the code's
--- inner functions, Below, with_bit, added_to.
+-- in order: is_inside, is_boundary, is_refused; digit, mask_of, sets_of, no_zones; found_of, broken_at, broken_by; then, of the
+-- code's inner functions, Below, with_bit, added_to.
 use Rattle.std.specs.Prelude.{Bool, true, false, cond, List, [], ◌∷◌, ℕ, ◌+◌, ◌*◌, ◌^◌, ◌<◌}
 use Rattle.std.specs.Int.Count.{ones}
 use Rattle.std.specs.declared.result.Result.TheVariants.{Ok, Err}
@@ -56,8 +56,11 @@ abbrev pub found_of : Sets → Which
 found_of sets = record { number = 0; place = 0; count = ones sets.inside + ones sets.boundary; sets = sets }
 
 -- A book that is refused.
-abbrev pub broken_at : Refusal → Which
-broken_at refusal = record { number = reason_number refusal.reason; place = refusal.place; count = 0; sets = no_zones }
+abbrev pub broken_at : ℕ → ℕ → Which
+broken_at number place = record { number = number; place = place; count = 0; sets = no_zones }
+
+abbrev pub broken_by : Refusal → Which
+broken_by refusal = broken_at (reason_number refusal.reason) refusal.place
 
 -- ---- of the code's inner functions: the sets zone by zone
 

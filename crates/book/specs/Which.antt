@@ -13,7 +13,7 @@ use Rattle.fields.specs.Fields.{grid_of}
 use Rattle.zone.specs.Judge.{sheet_answer_of}
 use Rattle.book.specs.declared.sets.Which.{Which}
 use Rattle.book.specs.Split.{Split, Whole, Broken, split_of}
-use Rattle.book.specs.Sets.{sets_of, found_of, broken_at}
+use Rattle.book.specs.Sets.{sets_of, found_of, broken_by}
 
 -- 0 names the grid of 2^20, 1 that of 2^26; any other number matches no sheet.
 abbrev pub grid_number_of : Grid → ℕ
@@ -29,7 +29,7 @@ zone_answer grid query part = answer_after (named_check grid part) (sheet_answer
 
 abbrev pub which_after : (List ℕ → Answer) → Split → Which
 which_after answer (Whole parts) = found_of (sets_of (map answer parts))
-which_after answer (Broken refusal) = broken_at refusal
+which_after answer (Broken refusal) = broken_by refusal
 
 unfoldable pub which_of : List ℕ → ℕ → Point → Which
 which_of book grid query = which_after (zone_answer grid query) (split_of book)

@@ -6,7 +6,7 @@ ghost use Rattle.book.specs.Which.{grid_number_of, zone_answer, which_of};
 
 use crate::sets::{Sets, Which};
 use crate::step::step_at;
-use crate::zones::{broken, found, with_zone};
+use crate::zones::{broken_by, found, with_zone};
 use answer::{Answer, Reason};
 use sphere::point::{Grid, Point};
 use zone::judge::judge;
@@ -58,11 +58,11 @@ pub fn which(book: &[u8], grid: u32, query: Point) -> Which
                 at += size;
             }
             Ok(None) => return found(zones),
-            Err(refusal) => return broken(refusal),
+            Err(refusal) => return broken_by(refusal),
         }
     }
     if at < book.len() {
-        return broken(Reason::ManySheets.at(at));
+        return broken_by(Reason::ManySheets.at(at));
     }
     found(zones)
 }

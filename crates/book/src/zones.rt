@@ -1,7 +1,7 @@
 // Sets, zone by zone, and what is made of them. Inside this crate only.
-// Here, in order: set_bit, with_zone, found, broken.
+// Here, in order: set_bit, with_zone, found, broken, broken_by.
 ghost use Rattle.std.specs.Prelude.{◌≡◌, ◌+◌, ◌^◌, ◌<◌};
-ghost use Rattle.book.specs.Sets.{Below, added_to, found_of, broken_at};
+ghost use Rattle.book.specs.Sets.{Below, added_to, found_of, broken_at, broken_by};
 
 use crate::sets::{Sets, Which};
 use answer::{Answer, Refusal, Verdict};
@@ -56,12 +56,13 @@ pub fn found(sets: Sets) -> Which
     }
 }
 
-pub fn broken(refusal: Refusal) -> Which
-    ensures { result ≡ broken_at refusal }
+// A book that is refused.
+pub fn broken(number: u32, place: usize) -> Which
+    ensures { result ≡ broken_at number place }
 {
     Which {
-        number: refusal.reason.number(),
-        place: refusal.place,
+        number,
+        place,
         count: 0,
         sets: Sets {
             inside: 0,
@@ -69,4 +70,11 @@ pub fn broken(refusal: Refusal) -> Which
             refused: 0,
         },
     }
+}
+
+// The same, of a refusal.
+pub(crate) fn broken_by(refusal: Refusal) -> Which
+    ensures { result ≡ broken_by refusal }
+{
+    broken(refusal.reason.number(), refusal.place)
 }

@@ -12,7 +12,7 @@ use Rattle.answer.specs.Refusal.{Answer}
 use Rattle.book.specs.declared.sets.Sets.{Sets}
 use Rattle.book.specs.declared.sets.Which.{Which}
 use Rattle.book.specs.Split.{Split, Whole, Broken, joined}
-use Rattle.book.specs.Sets.{is_inside, is_boundary, is_refused, digit, mask_of, sets_of, found_of, broken_at}
+use Rattle.book.specs.Sets.{is_inside, is_boundary, is_refused, digit, mask_of, sets_of, found_of, broken_by}
 use Rattle.book.specs.Sets.{no_zones, Below, with_bit, added_to}
 use Rattle.book.specs.Which.{which_after}
 
@@ -57,7 +57,7 @@ stacked_sets i low high = record {
 
 abbrev pub which_on : (List ℕ → Answer) → ℕ → Sets → Split → Which
 which_on answer i low (Whole parts) = found_of (stacked_sets i low (sets_of (map answer parts)))
-which_on answer i low (Broken refusal) = broken_at refusal
+which_on answer i low (Broken refusal) = broken_by refusal
 
 module _ (answer : List ℕ → Answer) where
   stack_none : (high : ℕ) → stacked 0 0 high ≡ high

@@ -15,7 +15,7 @@ use Rattle.answer.specs.Refusal.{Answer, refused_at}
 use Rattle.book.specs.declared.sets.Sets.{Sets}
 use Rattle.book.specs.Step.{step_at}
 use Rattle.book.specs.Split.{Split, part_of, split_from, split_of}
-use Rattle.book.specs.Sets.{no_zones, found_of, broken_at, Below, added_to}
+use Rattle.book.specs.Sets.{no_zones, found_of, broken_by, Below, added_to}
 use Rattle.book.specs.Which.{zone_answer, which_of}
 use Rattle.book.proofs.Laws.Splits.{split_sheet, split_refused, split_end, split_left, split_done}
 use Rattle.book.proofs.Laws.Masks.{which_on, zones_below, on_start, on_sheet, on_end}
@@ -60,13 +60,13 @@ module _ (book : List ℕ) (grid : ℕ) (query : Point) where
         } in
         rw (g, f) s
 
-    pub walked_refused : {refusal : Refusal} → i < 64 → step_at book at ≡ Err refusal → which_of book grid query ≡ broken_at refusal
+    pub walked_refused : {refusal : Refusal} → i < 64 → step_at book at ≡ Err refusal → which_of book grid query ≡ broken_by refusal
     walked_refused h e = then-split _ (one_left h) (split_refused (64 - (i + 1)) book at e)
 
     pub walked_end : i < 64 → step_at book at ≡ Ok None → which_of book grid query ≡ found_of zones
     walked_end h e = then-split _ (one_left h) (split_end (64 - (i + 1)) book at e) ∙ on_end answer i zones
 
-    pub walked_left : 64 ≤ i → at < length book → which_of book grid query ≡ broken_at (refused_at ManySheets at)
+    pub walked_left : 64 ≤ i → at < length book → which_of book grid query ≡ broken_by (refused_at ManySheets at)
     walked_left h l = then-split 0 (omega arith) (split_left book at l)
 
     pub walked_done : 64 ≤ i → length book ≤ at → which_of book grid query ≡ found_of zones

@@ -15,7 +15,7 @@ use Rattle.sphere.specs.Direction.{is_antipodal}
 use Rattle.std.specs.declared.option.Option.{Option}
 use Rattle.std.specs.declared.option.Option.TheVariants.{None, Some}
 use Rattle.std.specs.declared.result.Result.TheVariants.{Ok}
-use Rattle.answer.specs.declared.Reason.TheVariants.{AntipodalEnds, QueryAntipodal, QueryOffGrid, ReferenceOffGrid, ReferenceOnCircle, SameEnds, SecondPoint, VertexBeyond, VertexList, VertexNull}
+use Rattle.answer.specs.declared.Reason.TheVariants.{QueryAntipodal, QueryOffGrid, ReferenceOffGrid, ReferenceOnCircle, SecondPoint, VertexList}
 use Rattle.answer.specs.declared.Verdict.TheVariants.{Inside, Outside}
 use Rattle.answer.specs.Search.{first_from}
 use Rattle.polygon.specs.Vertices.{vertices_count, start_of, end_of}
@@ -37,6 +37,23 @@ module _ (Is : ℕ → Type 0) (limit : ℕ) (vs : List ℤ) where
   second_numbered X Y h = if_numbered SecondPoint (not (is_second limit vs X Y)) h
 
   module _ (list : Numbered Is (list_check vs)) (h : (n : ℕ) → 10 < n → n < 17 → Is n) (X : Point) where
+    -- Lines 11 to 14, whichever of these reasons each has: that is for the contracts to say.
+    beyond : Numbered Is (beyond_check limit vs)
+    unfolding beyond_check
+    beyond = at_numbered _ _ (h _ (lit< tt) (lit< tt))
+
+    null : Numbered Is (null_check vs)
+    unfolding null_check
+    null = at_numbered _ _ (h _ (lit< tt) (lit< tt))
+
+    same : Numbered Is (same_check vs)
+    unfolding same_check
+    same = at_numbered _ _ (h _ (lit< tt) (lit< tt))
+
+    antipodal : Numbered Is (antipodal_check vs)
+    unfolding antipodal_check
+    antipodal = at_numbered _ _ (h _ (lit< tt) (lit< tt))
+
     reference : Numbered Is (reference_check limit X)
     unfolding reference_check
     reference = if_numbered ReferenceOffGrid (is_off_grid limit X) (h 15 (lit< tt) (lit< tt))
@@ -48,14 +65,8 @@ module _ (Is : ℕ → Type 0) (limit : ℕ) (vs : List ℤ) where
         at_numbered ReferenceOnCircle (first_from test 0 (vertices_count vs)) (h 16 (lit< tt) (lit< tt))
 
     pub accept_numbered : Numbered Is (accept_check limit vs X)
-    unfolding accept_check polygon_check beyond_check null_check same_check antipodal_check
-    accept_numbered =
-        (list both at_numbered VertexBeyond _ (h 11 (lit< tt) (lit< tt))
-        both at_numbered VertexNull _ (h 12 (lit< tt) (lit< tt))
-        both at_numbered SameEnds _ (h 13 (lit< tt) (lit< tt))
-        both at_numbered AntipodalEnds _ (h 14 (lit< tt) (lit< tt)))
-        both reference
-        both circle
+    unfolding accept_check polygon_check
+    accept_numbered = (list both beyond both null both same both antipodal) both reference both circle
 
     pub pair_numbered : Is 19 → (Y : Point) → Numbered Is (pair_check limit vs X Y)
     unfolding pair_check

@@ -1,6 +1,7 @@
 -- What reading hands back and leaves, case by case. Proved, in order: fields_sound, fields_five, plain_passed,
 -- plain_five, plain_polygon; second_absent, second_present; sheet_second, sheet_plain, sheet_fields_lem, sheet_sound,
--- sheet_five, sheet_accepted, sheet_optional; read_refused, read_accepted; decoded_by, loaded_row, loaded_room; taken.
+-- sheet_five, sheet_accepted, sheet_optional; read_refused, read_accepted; loaded_by, decoded_by,
+-- loaded_row, loaded_room; taken.
 use mathlib.Core.Path.{◌≡◌, refl, sym, ap, ◌∙◌}
 use mathlib.Core.Bool.{Bool, true, false, cond}
 use mathlib.Core.List.{List, ◌++◌}
@@ -24,7 +25,7 @@ use Rattle.fields.specs.Fields.{vertices_start, grid_of, second_start, has_secon
 use Rattle.fields.specs.Fields.{fields_check}
 use Rattle.sheet.specs.Sheet.{known_of, vertex_count_of, vertices_of, second_of, plain_check, sheet_second_check}
 use Rattle.sheet.specs.Sheet.{sheet_check}
-use Rattle.sheet.specs.Sheet.{refused_sheet, read_after, read_of, loaded_after}
+use Rattle.sheet.specs.Sheet.{refused_sheet, read_after, read_of, loaded_after, loaded_of}
 use Rattle.sheet.specs.Open.{decoded_of}
 use Rattle.fields.proofs.Laws.Fields.{five_passed}
 
@@ -108,6 +109,10 @@ module _ (b : List ℕ) where
   pub read_accepted : sheet_check b ≡ Ok tt → read_of b ≡ read_after (Ok tt) b
   unfolding read_of
   read_accepted e = ap (λ (c : Check). read_after c b) e
+
+  pub loaded_by : {c : Check} (out : List ℤ) → sheet_check b ≡ c → loaded_of b out ≡ loaded_after c b out
+  unfolding loaded_of
+  loaded_by out e = ap (λ (c : Check). loaded_after c b out) e
 
   pub decoded_by : {c : Check} (out : List ℤ) → fields_check b ≡ c → decoded_of b out ≡ loaded_after c b out
   unfolding decoded_of

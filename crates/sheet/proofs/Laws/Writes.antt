@@ -1,10 +1,11 @@
 -- What writing answers and leaves, case by case. Proved, in order: passed_writable, input_sizes, input_storable (what
--- input that passes is known to be); answered, refused_kept, passed_stored (how it ends).
+-- input that passes is known to be); write_refused, write_short (which refusal);
+-- answered, refused_kept, passed_stored (how it ends).
 use mathlib.Core.Path.{◌≡◌, refl, sym, ap, ◌∙◌}
 use mathlib.Core.List.{List, [], ◌∷◌, ◌++◌}
 use Prim.Native.Nat.{ℕ, ◌+◌, ◌≤◌, ◌<◌}
 use native.Mathlib.Omega.{arith}
-use borrow.Author.Tests.{ltb-false, leb-true, not-false}
+use borrow.Author.Tests.{ltb-false, lt-ltb, leb-true, not-false}
 use lib.Dec.{leb}
 use lib.IntN.{ℤ}
 use lib.ListN.{length, drop}
@@ -16,7 +17,7 @@ use Rattle.std.specs.declared.result.Result.TheVariants.{Ok, Err}
 use Rattle.answer.specs.declared.Refusal.{Refusal}
 use Rattle.answer.specs.declared.Reason.TheVariants.{Charset, FieldLength, SheetRoom}
 use Rattle.answer.specs.declared.Verdict.{Verdict}
-use Rattle.answer.specs.Refusal.{Check}
+use Rattle.answer.specs.Refusal.{Check, refused_at}
 use Rattle.answer.specs.Answer.{answer_after}
 use Rattle.answer.specs.Buffer.{buffer_after}
 use Rattle.polygon.specs.Pair.{optional_check}
@@ -79,6 +80,18 @@ module _ (charset : ℕ) (name : List ℕ) (known : GridPoint) (g : Grid) (verti
         }
 
   -- ---- what it answers, and what it leaves in the buffer
+  -- What an input is refused for is the answer, in any room.
+  pub write_refused : {refusal : Refusal} (room : ℕ) → input_check charset name known g vertices second ≡ Err refusal →
+      write_of charset name known g vertices second room ≡ Err refusal
+  unfolding write_of write_check
+  write_refused room e = rw e
+
+  pub write_short :
+      (room : ℕ) → input_check charset name known g vertices second ≡ Ok tt → room < bytes_needed name vertices second.point →
+      write_of charset name known g vertices second room ≡ Err (refused_at SheetRoom (bytes_needed name vertices second.point))
+  unfolding write_of write_check
+  write_short room ok h = rw (ok, lt-ltb room (bytes_needed name vertices second.point) h)
+
   answer_passed : (c : Check) (done : Verdict) {verdict : Verdict} → answer_after c (Ok done) ≡ Ok verdict → c ≡ Ok tt
   answer_passed (Ok unit) done e = refl
   answer_passed (Err refusal) done e = absurd cc

@@ -6,7 +6,7 @@ use borrow.Author.Rules.{rules}
 use Rattle.std.specs.declared.option.Option.TheVariants.{None, Some}
 use Rattle.std.specs.declared.result.Result.TheVariants.{Ok}
 use Rattle.book.specs.Step.{step_at}
-use Rattle.book.specs.Sets.{broken_at}
+use Rattle.book.specs.Sets.{broken_by}
 use Rattle.book.proofs.Laws.Steps.{sheet_at, part_five}
 use Rattle.book.proofs.Laws.Walked.{walked_start, walked_sheet, walked_refused, walked_end}
 use Rattle.book.proofs.Laws.Walked.{walked_left, walked_done}
@@ -31,7 +31,7 @@ overflow_add-at c =
 
 pub returns-in-Err : goal.returns-in-Err
 returns-in-Err c =
-    c.broken.ensures
+    c.broken_by.ensures
     ∙ sym (walked_refused _ _ _ c.loop-i.invariant c.loop-i-test.true
     (sym c.step_at.ensures ∙ c.in-Err.is))
 
@@ -50,7 +50,7 @@ loop-i-preserved c =
 
 pub returns-then-at-book : goal.returns-then-at-book
 returns-then-at-book c =
-    c.broken-then-at-book.ensures ∙ ap broken_at c.at.ensures
+    c.broken_by-then-at-book.ensures ∙ ap broken_by c.at.ensures
     ∙ sym (walked_left _ _ _ c.loop-i.invariant c.loop-i-test.false c.if-at-book.true)
 
 pub returns : goal.returns
