@@ -15,7 +15,8 @@ pub fn repository(path: &str) -> PathBuf {
 pub struct Folder(PathBuf);
 
 impl Folder {
-    /// A new one: another test that runs at the same time may have the name too, and a run that was stopped leaves its own.
+    /// A new one. Another test that runs at the same time may ask for the name too, and a run that was stopped
+    /// leaves its own.
     pub fn new(name: &str) -> Folder {
         let temporary = env::temp_dir();
         for i in 0u32.. {
