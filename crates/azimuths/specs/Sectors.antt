@@ -1,8 +1,8 @@
 -- The sector of an edge, the azimuths that it spans: for the code alone. Defined, in order: turn_of, early_of,
 -- sector_start, sector_width, is_left; FrameGridded, FrameWithin, SectorsOf (those of all edges, one after the other);
--- is_missed_at (an edge that does not span an azimuth), is_missed (nor any of a range), MissedIn; is_inside, turns_left,
--- way_by (an edge that spans it, and ends elsewhere); Idle (an edge that a query does not notice), Telling (what
--- azimuths tell of a query).
+-- is_missed_at (an edge that does not span an azimuth), is_missed (nor any of a range), MissedIn, is_passed (an edge that
+-- spans an azimuth and the next); is_inside, turns_left, way_by (an edge that spans it, and ends elsewhere); Idle (an edge
+-- that a query does not notice), Telling (what azimuths tell of a query).
 use Rattle.std.specs.Prelude.{◌≡◌, Bool, true, false, cond, ◌&&◌, List, ℕ, ◌+◌, ◌*◌, ◌-◌, ◌%◌, ◌≤◌, ◌<◌, eqb, ltb, ℤ, length, get_or}
 use Rattle.integers.specs.Sign.{Sign, negative, nought, positive, sign_of, is_positive}
 use Rattle.sphere.specs.declared.point.Point.{Point}
@@ -64,6 +64,10 @@ is_missed sectors lo last j =
 -- It spans no azimuth of the range.
 abbrev pub MissedIn : List ℕ → ℕ → ℕ → ℕ → Type 0
 MissedIn sectors lo last j = (k : ℕ) → lo ≤ k → k ≤ last → is_missed_at sectors k j ≡ true
+
+-- Edge j spans azimuth k and the next. A hint, by which cones are parted: no answer hangs on it.
+abbrev pub is_passed : List ℕ → ℕ → ℕ → Bool
+is_passed sectors k j = ltb (gap_of k (get_or sectors (j * 2) 0)) (get_or sectors (j * 2 + 1) 0)
 
 -- Azimuth k is inside the sector of edge j, and the edge ends at others: its start may be an azimuth early.
 abbrev pub is_inside : List ℕ → ℕ → ℕ → Bool

@@ -10,7 +10,7 @@ ghost use Rattle.polygon.specs.Checks.{accept_check};
 ghost use Rattle.polygon.specs.Vertices.{vertices_count, start_of, end_of};
 ghost use Rattle.azimuths.specs.Azimuth.{gap_of, azimuth_of, FrameAt};
 ghost use Rattle.azimuths.specs.Sectors.{turn_of, sector_start, sector_width, is_left, FrameWithin, SectorsOf};
-ghost use Rattle.azimuths.specs.Sectors.{is_missed_at, is_missed, is_inside, turns_left};
+ghost use Rattle.azimuths.specs.Sectors.{is_missed_at, is_missed, is_passed, is_inside, turns_left};
 
 use crate::azimuth::{Frame, azimuth_by};
 use polygon::vertices::{end_of, vertex_at};
@@ -103,6 +103,7 @@ pub fn is_missed(sectors: &[u16], lo: u16, last: u16, i: usize) -> bool
 // A hint: edge i spans azimuth k and the next.
 pub fn is_passed(sectors: &[u16], k: u16, i: usize) -> bool
     requires { i * 2 + 2 ≤ length sectors.now }
+    ensures { result ≡ is_passed sectors.now k i }
 {
     gap(k, sectors[i * 2]) < sectors[i * 2 + 1]
 }
