@@ -14422,27 +14422,20 @@ static INLINE uint64_t spargolutta__imports__spg_points_place(slice_uint8_t l1, 
 static INLINE uint64_t degrees__outside_at(slice_uint8_t l1, uint64_t l2)
 {
     uint64_t l0;
-    uint64_t l3;
-    uint64_t l4;
-    uint32_t l5;
+    uint32_t l3;
+    uint32_t l4;
+    uint64_t l5;
     uint64_t l6;
-    uint64_t l7;
+    uint32_t l7;
     bool l8;
-    bool l9;
-    l6 = (l2 << 3);
-    l5 = big_endian__read__int_at(l1, l6);
-    l3 = core__convert__I64FromI32__from(l5);
-    l6 = (l2 << 3);
-    l7 = (l6 + UINT64_C(4));
-    l5 = big_endian__read__int_at(l1, l7);
-    l4 = core__convert__I64FromI32__from(l5);
-    l8 = angles__point__is_past(UINT64_C(1800000000), l3);
+    l5 = (l2 << 3);
+    l3 = big_endian__read__int_at(l1, l5);
+    l5 = (l2 << 3);
+    l6 = (l5 + UINT64_C(4));
+    l4 = big_endian__read__int_at(l1, l6);
+    l7 = angles__point__point_number(l3, l4);
+    l8 = (l7 != UINT32_C(0));
     if (l8) {
-        l0 = UINT64_C(1);
-        return l0;
-    }
-    l9 = angles__point__is_past(UINT64_C(900000000), l4);
-    if (l9) {
         l0 = UINT64_C(1);
         return l0;
     }
