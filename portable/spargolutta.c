@@ -14243,20 +14243,22 @@ static INLINE type_core__result__Result_of_unit_Refusal degrees__points_check(sl
     return l0;
 }
 
-static INLINE type_angles__point__Position degrees__position_at(slice_uint8_t l1, uint64_t l2)
+static INLINE bool degrees__is_outside_at(slice_uint8_t l1, uint64_t l2)
 {
-    type_angles__point__Position l0;
+    bool l0;
     uint32_t l3;
     uint32_t l4;
-    uint32_t l5;
+    uint64_t l5;
     uint32_t l6;
     uint64_t l7;
-    l4 = big_endian__read__word_at(l1, l2);
-    l3 = big_endian__read__to_signed(l4);
-    l7 = (l2 + UINT64_C(4));
-    l6 = big_endian__read__word_at(l1, l7);
-    l5 = big_endian__read__to_signed(l6);
-    l0 = (type_angles__point__Position){.f0 = l3, .f1 = l5};
+    uint64_t l8;
+    l5 = (l2 << 3);
+    l4 = big_endian__read__int_at(l1, l5);
+    l7 = (l2 << 3);
+    l8 = (l7 + UINT64_C(4));
+    l6 = big_endian__read__int_at(l1, l8);
+    l3 = angles__point__point_number(l4, l6);
+    l0 = (l3 != UINT32_C(0));
     return l0;
 }
 
@@ -14287,20 +14289,41 @@ static INLINE void degrees__put_numbers(slice_uint8_t l1, uint64_t l2, type_angl
     return;
 }
 
-static INLINE void degrees__put_one(slice_uint8_t l1, type_sphere__point__Grid l2, uint64_t l3, slice_uint8_t l4)
+static void degrees__put_one(slice_uint8_t l1, type_sphere__point__Grid l2, uint64_t l3, slice_uint8_t l4)
 {
-    type_angles__point__GridNumbers l5;
-    type_angles__point__Position l6;
-    uint64_t l7;
+    uint32_t l5;
+    uint32_t l6;
+    type_angles__point__GridNumbers l7;
+    bool l8;
     uint8_t *l9;
     slice_uint8_t l10;
-    l7 = (l3 << 3);
-    l6 = degrees__position_at(l1, l7);
-    l5 = angles__point__numbers_on(l2, l6);
-    l9 = (uint8_t *)(void *)&(*l4.f0);
-    l10 = (slice_uint8_t){.f0 = l9, .f1 = l4.f1};
-    l7 = (l3 * UINT64_C(12));
-    degrees__put_numbers(l10, l7, l5);
+    uint64_t l11;
+    type_angles__point__GridNumbers l12;
+    uint64_t l13;
+    uint64_t l14;
+    type_angles__point__Position l15;
+    uint8_t *l17;
+    slice_uint8_t l18;
+    l8 = degrees__is_outside_at(l1, l3);
+    if (l8) {
+        l9 = (uint8_t *)(void *)&(*l4.f0);
+        l10 = (slice_uint8_t){.f0 = l9, .f1 = l4.f1};
+        l11 = (l3 * UINT64_C(12));
+        l12 = (type_angles__point__GridNumbers){.f0 = UINT32_C(0), .f1 = UINT32_C(0), .f2 = UINT32_C(0)};
+        degrees__put_numbers(l10, l11, l12);
+        return;
+    }
+    l13 = (l3 << 3);
+    l5 = big_endian__read__int_at(l1, l13);
+    l13 = (l3 << 3);
+    l14 = (l13 + UINT64_C(4));
+    l6 = big_endian__read__int_at(l1, l14);
+    l15 = (type_angles__point__Position){.f0 = l5, .f1 = l6};
+    l7 = angles__point__numbers_on(l2, l15);
+    l17 = (uint8_t *)(void *)&(*l4.f0);
+    l18 = (slice_uint8_t){.f0 = l17, .f1 = l4.f1};
+    l13 = (l3 * UINT64_C(12));
+    degrees__put_numbers(l18, l13, l7);
     return;
 }
 
@@ -14338,7 +14361,7 @@ static INLINE void degrees__put_all(slice_uint8_t l1, type_sphere__point__Grid l
         degrees__put_all_either(l1, (type_sphere__point__Grid){.tag = 1}, l3);
 }
 
-static type_core__result__Result_of_Verdict_Refusal degrees__fill_points(slice_uint8_t l1, uint32_t l2, slice_uint8_t l3)
+static INLINE type_core__result__Result_of_Verdict_Refusal degrees__fill_points(slice_uint8_t l1, uint32_t l2, slice_uint8_t l3)
 {
     type_core__result__Result_of_Verdict_Refusal l0;
     uint64_t l4;
@@ -14422,20 +14445,9 @@ static INLINE uint64_t spargolutta__imports__spg_points_place(slice_uint8_t l1, 
 static INLINE uint64_t degrees__outside_at(slice_uint8_t l1, uint64_t l2)
 {
     uint64_t l0;
-    uint32_t l3;
-    uint32_t l4;
-    uint64_t l5;
-    uint64_t l6;
-    uint32_t l7;
-    bool l8;
-    l5 = (l2 << 3);
-    l3 = big_endian__read__int_at(l1, l5);
-    l5 = (l2 << 3);
-    l6 = (l5 + UINT64_C(4));
-    l4 = big_endian__read__int_at(l1, l6);
-    l7 = angles__point__point_number(l3, l4);
-    l8 = (l7 != UINT32_C(0));
-    if (l8) {
+    bool l3;
+    l3 = degrees__is_outside_at(l1, l2);
+    if (l3) {
         l0 = UINT64_C(1);
         return l0;
     }
